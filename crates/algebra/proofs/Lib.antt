@@ -1,0 +1,13 @@
+pub mod Orders
+pub mod Network
+pub mod Paths
+pub mod Enumeration
+pub mod Bests
+pub mod Column
+pub mod Reach
+pub mod Settling
+pub mod Still
+pub mod Bound
+pub mod StatedLaw
+pub mod Embedding
+pub mod Demands

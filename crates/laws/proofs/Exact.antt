@@ -1,0 +1,125 @@
+-- Demand 2 of the law report: a law is reported held exactly when it holds for all weights of the language; a broken one comes with
+-- weights that break it; each refusal is given exactly in its case; two answers that meet the contract are equal.
+use Prim.Native.Nat.{ℕ, zero, suc, _≤_, _<_}
+use mathlib.Core.Path.{_≡_, refl, sym, ap, subst, _∙_}
+use mathlib.Core.Bool.{Bool, true, false, cond}
+use mathlib.Core.List.{List, [], _∷_}
+use mathlib.Core.Logic.{_⊎_, inl, inr, _↔_}
+use native.Mathlib.Omega.{arith}
+use Rattle.refusals.specs.declared.Refusal.{Refusal}
+use Rattle.refusals.specs.declared.Told.{Told}
+use Rattle.refusals.specs.Told.{told, done}
+use Rattle.refusals.specs.declared.Check.{Check}
+use Rattle.refusals.specs.declared.Check.the-variants.{Passed, Refused}
+use Rattle.refusals.proofs.OneToOne.{told-one, told-not-done}
+use Rattle.refusals.proofs.First.{Gives, first-exactly}
+use Rattle.weights.specs.declared.Language.{Language}
+use Rattle.weights.specs.Weights.{route, unit, unitValues}
+use Rattle.weights.specs.Laws.{LawD, LawU, LawC, testD, testU, testC, sD, xD, yD, xU, sC, BreaksD, BreaksU, BreaksC}
+use Rattle.weights.specs.Languages.{componentsOf, countCheck, limitCheck, languageCheck}
+use Rattle.weights.proofs.Decided.{D-exact, U-exact, C-exact, D-broken, U-broken, C-broken}
+use Rattle.weights.proofs.Checking.{check-sound}
+use Rattle.laws.specs.declared.Words.{Words}
+use Rattle.laws.specs.declared.Law.{Law}
+use Rattle.laws.specs.declared.LawAnswer.{LawAnswer}
+use Rattle.laws.specs.declared.LawAnswer.the-variants.{Laws, Refused as NoLaws}
+use Rattle.laws.specs.Report.{LawRow, Report, valueWords, noWords, lawRow, lawsOf, reportOf, report, wordsOf, lawOf, answerRow}
+
+-- ---- the verdicts, of a language that passes its checks
+
+module _ (l : Language) (e : languageCheck l ≡ Passed) where
+  told-laws : report l ≡ lawsOf (componentsOf l)
+  told-laws = ap (λ (k : Check). reportOf k (componentsOf l)) e
+
+  same-test : {t u : Bool} {P : Type 0} → u ≡ t → (t ≡ true) ↔ P → (u ≡ true) ↔ P
+  same-test q x = (λ h. x .0 (sym q ∙ h), λ p. q ∙ x .1 p)
+
+  pub D-reported : (report l .lawD .held ≡ true) ↔ LawD (componentsOf l)
+  D-reported = same-test (ap (λ (r : Report). r .lawD .held) told-laws) (D-exact (componentsOf l) (check-sound l e))
+
+  pub U-reported : (report l .lawU .held ≡ true) ↔ LawU (componentsOf l)
+  U-reported = same-test (ap (λ (r : Report). r .lawU .held) told-laws) (U-exact (componentsOf l) (check-sound l e))
+
+  pub C-reported : (report l .lawC .held ≡ true) ↔ LawC (componentsOf l)
+  C-reported = same-test (ap (λ (r : Report). r .lawC .held) told-laws) (C-exact (componentsOf l) (check-sound l e))
+
+  -- a law reported broken: the words are those of weights that break it
+  pub record Shown (row : LawRow) (s x y : List ℕ) (Breaks : Type 0) : Type 0 where
+    pub s-words : row .s ≡ valueWords s
+    pub x-words : row .x ≡ valueWords x
+    pub y-words : row .y ≡ valueWords y
+    pub breaks : Breaks
+
+  shown : (row : LawRow) (t : Bool) (s x y : List ℕ) (B : Type 0) → row ≡ lawRow t s x y → t ≡ false → B → Shown row s x y B
+  shown row t s x y B r q b = record {
+    s-words = ap (λ (w : LawRow). w .s) r ∙ rw q;
+    x-words = ap (λ (w : LawRow). w .x) r ∙ rw q;
+    y-words = ap (λ (w : LawRow). w .y) r ∙ rw q;
+    breaks = b;
+  }
+
+  pub D-shown : report l .lawD .held ≡ false → Shown (report l .lawD) (sD (componentsOf l)) (xD (componentsOf l)) (yD (componentsOf l)) (BreaksD (componentsOf l) (route (sD (componentsOf l))) (route (xD (componentsOf l))) (route (yD (componentsOf l))))
+  D-shown h =
+      let q : testD (componentsOf l) ≡ false = sym (ap (λ (r : Report). r .lawD .held) told-laws) ∙ h in
+      shown (report l .lawD) (testD (componentsOf l)) (sD (componentsOf l)) (xD (componentsOf l)) (yD (componentsOf l)) _ (ap (λ (r : Report). r .lawD) told-laws) q (D-broken (componentsOf l) (check-sound l e) q)
+
+  pub U-shown : report l .lawU .held ≡ false → Shown (report l .lawU) [] (xU (componentsOf l)) [] (BreaksU (componentsOf l) (route (xU (componentsOf l))))
+  U-shown h =
+      let q : testU (componentsOf l) ≡ false = sym (ap (λ (r : Report). r .lawU .held) told-laws) ∙ h in
+      shown (report l .lawU) (testU (componentsOf l)) [] (xU (componentsOf l)) [] _ (ap (λ (r : Report). r .lawU) told-laws) q (U-broken (componentsOf l) (check-sound l e) q)
+
+  pub C-shown : report l .lawC .held ≡ false → Shown (report l .lawC) (sC (componentsOf l)) (unitValues (componentsOf l)) (sC (componentsOf l)) (BreaksC (componentsOf l) (route (sC (componentsOf l))) (unit (componentsOf l)) (route (sC (componentsOf l))))
+  C-shown h =
+      let q : testC (componentsOf l) ≡ false = sym (ap (λ (r : Report). r .lawC .held) told-laws) ∙ h in
+      shown (report l .lawC) (testC (componentsOf l)) (sC (componentsOf l)) (unitValues (componentsOf l)) (sC (componentsOf l)) _ (ap (λ (r : Report). r .lawC) told-laws) q (C-broken (componentsOf l) (check-sound l e) q)
+
+-- ---- the refusals
+
+-- the report refuses r exactly when check 5, or after it check 4, gives r
+pub refused-exactly : (l : Language) (r : Refusal) → (report l .told ≡ told r) ↔ Gives (countCheck l ∷ limitCheck l ∷ []) r
+refused-exactly l r = (λ e. first-exactly (countCheck l ∷ limitCheck l ∷ []) r .0 (there (languageCheck l) refl e), λ g. ap (λ (k : Check). reportOf k (componentsOf l) .told) (first-exactly (countCheck l ∷ limitCheck l ∷ []) r .1 g))
+  where
+    there : (k : Check) → languageCheck l ≡ k → reportOf k (componentsOf l) .told ≡ told r → languageCheck l ≡ Refused r
+    there Passed p e = absurd (told-not-done r (sym e))
+    there (Refused q) p e = p ∙ ap Refused (told-one q r e)
+
+-- ---- two answers with one row are equal
+
+pub words-one : (v w : Words) → wordsOf v ≡ wordsOf w → v ≡ w
+words-one v w e = λ i. record { first = a i; second = b i; third = c i; fourth = d i }
+  where
+    a : v .first ≡ w .first
+    a = cc
+
+    b : v .second ≡ w .second
+    b = cc
+
+    c : v .third ≡ w .third
+    c = cc
+
+    d : v .fourth ≡ w .fourth
+    d = cc
+
+law-one : (v w : Law) → lawOf v ≡ lawOf w → v ≡ w
+law-one v w e = λ i. record { held = h i; s = s i; x = x i; y = y i }
+  where
+    h : v .held ≡ w .held
+    h = ap (λ (r : LawRow). r .held) e
+
+    s : v .s ≡ w .s
+    s = words-one (v .s) (w .s) (ap (λ (r : LawRow). r .s) e)
+
+    x : v .x ≡ w .x
+    x = words-one (v .x) (w .x) (ap (λ (r : LawRow). r .x) e)
+
+    y : v .y ≡ w .y
+    y = words-one (v .y) (w .y) (ap (λ (r : LawRow). r .y) e)
+
+row-one : (a b : LawAnswer) → answerRow a ≡ answerRow b → a ≡ b
+row-one (Laws d u c) (Laws d′ u′ c′) e = λ i. Laws (law-one d d′ (ap (λ (r : Report). r .lawD) e) i) (law-one u u′ (ap (λ (r : Report). r .lawU) e) i) (law-one c c′ (ap (λ (r : Report). r .lawC) e) i)
+row-one (Laws d u c) (NoLaws r) e = absurd (told-not-done r (sym (ap (λ (q : Report). q .told) e)))
+row-one (NoLaws r) (Laws d u c) e = absurd (told-not-done r (ap (λ (q : Report). q .told) e))
+row-one (NoLaws r) (NoLaws s) e = ap NoLaws (told-one r s (ap (λ (q : Report). q .told) e))
+
+pub answers-equal : (l : Language) (a b : LawAnswer) → answerRow a ≡ report l → answerRow b ≡ report l → a ≡ b
+answers-equal l a b p q = row-one a b (p ∙ sym q)

@@ -1,0 +1,46 @@
+-- Exactness of refusals: the first of a list of checks gives r exactly when some check gives r and all before it pass.
+use Prim.Native.Nat.{ℕ}
+use mathlib.Core.Path.{_≡_, refl, sym}
+use mathlib.Core.Logic.{_⊎_, inl, inr, _↔_}
+use mathlib.Core.List.{List, [], _∷_, _++_}
+use native.Mathlib.Omega.{arith}
+use Rattle.refusals.specs.declared.Refusal.{Refusal}
+use Rattle.refusals.specs.declared.Check.{Check}
+use Rattle.refusals.specs.declared.Check.the-variants.{Passed, Refused}
+use Rattle.refusals.specs.Checks.{orElse, firstOf}
+
+-- every check of the list passes
+abbrev pub Pass : List Check → Type 0
+Pass [] = Unit {0}
+Pass (c ∷ cs) = (c ≡ Passed) × Pass cs
+
+-- some check of the list gives r, and all before it pass
+abbrev pub Gives : List Check → Refusal → Type 0
+Gives [] r = ⊥
+Gives (c ∷ cs) r = (c ≡ Refused r) ⊎ ((c ≡ Passed) × Gives cs r)
+
+-- to pass is not to refuse
+pub passed-not : (r : Refusal) → _≡_ {A = Check} Passed (Refused r) → ⊥
+passed-not r e = let z : _≡_ {A = ℕ} 0 1 = cc in omega arith
+
+first-gives : (cs : List Check) (r : Refusal) → firstOf cs ≡ Refused r → Gives cs r
+first-gives [] r e = absurd (passed-not r e)
+first-gives (Refused s ∷ cs) r e = inl e
+first-gives (Passed ∷ cs) r e = inr (refl, first-gives cs r e)
+
+gives-first : (cs : List Check) (r : Refusal) → Gives cs r → firstOf cs ≡ Refused r
+gives-first [] r g = absurd g
+gives-first (c ∷ cs) r (inl e) = rw e
+gives-first (c ∷ cs) r (inr (e, g)) = rw e (gives-first cs r g)
+
+pub first-exactly : (cs : List Check) (r : Refusal) → (firstOf cs ≡ Refused r) ↔ Gives cs r
+first-exactly cs r = (first-gives cs r, gives-first cs r)
+
+pub pass-first : (cs : List Check) → Pass cs → firstOf cs ≡ Passed
+pass-first [] p = refl
+pass-first (c ∷ cs) p = rw (p .0) (pass-first cs (p .1))
+
+pub first-passes : (cs : List Check) → firstOf cs ≡ Passed → Pass cs
+first-passes [] e = tt
+first-passes (Passed ∷ cs) e = (refl, first-passes cs e)
+first-passes (Refused s ∷ cs) e = absurd (passed-not s (sym e))

@@ -1,0 +1,9 @@
+pub mod Ordering
+pub mod Decided
+pub mod Languages
+pub mod Buffers
+pub mod Padding
+pub mod Checking
+pub mod Compared
+pub mod Worked
+pub mod Unique

@@ -1,0 +1,116 @@
+-- What the code's languages, weights and comparisons mean, and the checks of a language (refusals 5 and 4).
+-- To be believed: all of it.
+use Prim.Native.Nat.{ℕ, zero, suc, _≤_}
+use mathlib.Core.Path.{_≡_}
+use mathlib.Core.Bool.{Bool, true, false, cond, _&&_}
+use mathlib.Core.List.{List, [], _∷_}
+use lib.Dec.{leb, eqb}
+use lib.ListN.{take}
+use Rattle.refusals.specs.declared.Refusal.the-variants.{Component as BadComponent, Count as BadCount}
+use Rattle.refusals.specs.declared.Check.{Check}
+use Rattle.refusals.specs.declared.Check.the-variants.{Passed, Refused}
+use Rattle.refusals.specs.Checks.{unless, firstOf}
+use Rattle.weights.specs.declared.Component.{Component}
+use Rattle.weights.specs.declared.Component.the-variants.{Dist, Width, Class, Gain}
+use Rattle.weights.specs.declared.Language.{Language}
+use Rattle.weights.specs.declared.Checked.{Checked}
+use Rattle.weights.specs.declared.Checked.the-variants.{Sound, Unsound}
+use Rattle.weights.specs.declared.Places.{Places}
+use Rattle.weights.specs.declared.Weight as declared
+use Rattle.weights.specs.declared.Weight.the-variants.{Route, NoRoute}
+use Rattle.weights.specs.declared.Comparison.{Comparison}
+use Rattle.weights.specs.declared.Comparison.the-variants.{Better, Equal, Worse}
+use Rattle.weights.specs.Sizes.{places}
+use Rattle.weights.specs.Weights.{Weight, none, route, better}
+
+-- ---- a language in calls
+
+-- A language means its first `count` components; the places after them are ignored.
+abbrev pub componentsOf : Language → List Component
+componentsOf l = take (l .count) (l .first ∷ l .second ∷ l .third ∷ l .fourth ∷ [])
+
+-- refusal 5: the count is 1 to 4
+abbrev pub countCheck : Language → Check
+countCheck l = unless (leb 1 (l .count) && leb (l .count) places) (BadCount 0 0)
+
+-- width has a limit from 1: a test
+abbrev pub soundLimit : Component → Bool
+soundLimit Dist = true
+soundLimit (Width w) = leb 1 w
+soundLimit (Class c) = true
+soundLimit Gain = true
+
+-- refusal 4: the first component, counted from i, with a width limit 0
+abbrev pub limitsFrom : ℕ → List Component → Check
+limitsFrom i [] = Passed
+limitsFrom i (c ∷ cs) = cond (soundLimit c) (limitsFrom (suc i) cs) (Refused (BadComponent 0 i))
+
+abbrev pub limitCheck : Language → Check
+limitCheck l = limitsFrom 0 (componentsOf l)
+
+-- ---- the places that code works on
+
+-- The components, with class 0, whose single value is the unused word 0, in each place after them.
+abbrev pub padded : ℕ → List Component → List Component
+padded zero cs = []
+padded (suc n) [] = Class 0 ∷ padded n []
+padded (suc n) (c ∷ cs) = c ∷ padded n cs
+
+abbrev pub placesOf : Places → List Component
+placesOf p = p .first ∷ p .second ∷ p .third ∷ p .fourth ∷ []
+
+-- the limits are at most n
+abbrev pub SmallLimit : ℕ → Component → Type 0
+SmallLimit n Dist = Unit {0}
+SmallLimit n (Width w) = w ≤ n
+SmallLimit n (Class c) = c ≤ n
+SmallLimit n Gain = Unit {0}
+
+abbrev pub SmallLimits : ℕ → List Component → Type 0
+SmallLimits n [] = Unit {0}
+SmallLimits n (c ∷ cs) = SmallLimit n c × SmallLimits n cs
+
+-- ---- a weight of the code, a value for each place
+
+abbrev pub weightOf : declared.Weight → Weight
+weightOf (Route a b c d) = route (a ∷ b ∷ c ∷ d ∷ [])
+weightOf NoRoute = none
+
+-- every value is at most n
+abbrev pub AllAtMost : ℕ → List ℕ → Type 0
+AllAtMost n [] = Unit {0}
+AllAtMost n (x ∷ xs) = (x ≤ n) × AllAtMost n xs
+
+abbrev pub AtMost : ℕ → Weight → Type 0
+AtMost n none = Unit {0}
+AtMost n (route xs) = AllAtMost n xs
+
+-- ---- comparing
+
+-- better, worse, or neither
+abbrev pub compared : List Component → Weight → Weight → Comparison
+compared cs x y = cond (better cs x y) Better (cond (better cs y x) Worse Equal)
+
+-- the two weights are the same: a test
+abbrev pub sameValues : List ℕ → List ℕ → Bool
+sameValues [] [] = true
+sameValues [] (y ∷ ys) = false
+sameValues (x ∷ xs) [] = false
+sameValues (x ∷ xs) (y ∷ ys) = eqb x y && sameValues xs ys
+
+abbrev pub same : Weight → Weight → Bool
+same none none = true
+same none (route ys) = false
+same (route xs) none = false
+same (route xs) (route ys) = sameValues xs ys
+
+-- ---- the checks of a language
+
+-- refusals 5 and 4, in this order
+abbrev pub languageCheck : Language → Check
+languageCheck l = firstOf (countCheck l ∷ limitCheck l ∷ [])
+
+-- the language passes, with its places, or is refused
+abbrev pub CheckSays : Language → Checked → Type 0
+CheckSays l (Sound p) = (languageCheck l ≡ Passed) × (placesOf p ≡ padded places (componentsOf l)) × SmallLimits 65535 (placesOf p)
+CheckSays l (Unsound r) = languageCheck l ≡ Refused r

@@ -1,0 +1,5 @@
+pub mod Sizes
+pub mod Weights
+pub mod Laws
+pub mod Languages
+pub mod Words
