@@ -9,7 +9,8 @@ use Rattle.algebra.specs.Order.{pick}
 use Rattle.algebra.specs.Path.{Mem, Simple, Matrix, pathWeight}
 use Rattle.algebra.specs.Best.{OfSimplePath, Best, simplePaths, bestAmong, best}
 use Rattle.algebra.proofs.Orders.{NoWorse, nw-trans, nw-antisym, Picked, pick-is}
-use Rattle.algebra.proofs.Network.{Network, nw-none}
+use Rattle.algebra.specs.Network.{Network}
+use Rattle.algebra.proofs.Joining.{nw-none}
 use Rattle.algebra.proofs.Paths.{weight-valid}
 use Rattle.algebra.proofs.Enumeration.{simplePaths-sound, simplePaths-complete}
 

@@ -10,7 +10,7 @@ use Rattle.algebra.specs.Algebra.{Algebra}
 use Rattle.algebra.specs.Path.{Below, Simple, Matrix, pathWeight}
 use Rattle.algebra.specs.Best.{OfSimplePath}
 use Rattle.algebra.specs.Step.{Step, routed, reached}
-use Rattle.algebra.proofs.Network.{Network}
+use Rattle.algebra.specs.Network.{Network}
 use Rattle.algebra.proofs.Paths.{simple-short}
 use Rattle.algebra.proofs.Reach.{entry-held, stored-held}
 

@@ -16,7 +16,8 @@ use Rattle.algebra.specs.Best.{OfSimplePath, Best, best}
 use Rattle.algebra.specs.Step.{fresh, through, routed}
 use Rattle.algebra.specs.Demand.{HoldsBest}
 use Rattle.algebra.proofs.Orders.{NoWorse, nw-refl, nw-eq, nw-trans, nw-antisym, bestOf-mono, bestOf-is, Chosen}
-use Rattle.algebra.proofs.Network.{Network, nw-none, nw-join, nw-grows}
+use Rattle.algebra.specs.Network.{Network}
+use Rattle.algebra.proofs.Joining.{nw-none, nw-join, nw-grows}
 use Rattle.algebra.proofs.Paths.{simple-rest, simple-stay, simple-more, simple-short}
 use Rattle.algebra.proofs.Bests.{best-is, simple-valid, held-valid, best-nw, best-nw-held, best-unique}
 

@@ -5,7 +5,7 @@ use mathlib.Core.List.{List, [], _∷_, _++_}
 use Rattle.algebra.specs.Path.{Mem}
 use Rattle.algebra.specs.Step.{Step, settle}
 use Rattle.algebra.specs.Demand.{Demand3}
-use Rattle.algebra.proofs.Network.{Network}
+use Rattle.algebra.specs.Network.{Network}
 use Rattle.algebra.proofs.Reach.{never-better, never-worse, settled-best, swept-best, stored-held}
 
 -- what stands in a list splits it

@@ -1,5 +1,5 @@
 pub mod Orders
-pub mod Network
+pub mod Joining
 pub mod Paths
 pub mod Enumeration
 pub mod Bests
@@ -11,3 +11,5 @@ pub mod Bound
 pub mod StatedLaw
 pub mod Embedding
 pub mod Demands
+pub mod Forwarding
+pub mod Carrying

@@ -60,7 +60,7 @@ module _ (𝓞 : Order) (𝓛 : Ordered 𝓞) where
   pick-is x y vx vy = go (better y x) refl
     where
       go : (b : Bool) → better y x ≡ b → Picked x y (cond b y x)
-      go true e = record { fst = record { left = vy; right = vx; test = 𝓛 .total x y vx vy e }; snd = nw-refl vy; one = inr refl }
+      go true e = record { fst = record { left = vy; right = vx; test = 𝓛 .asym x y vx vy e }; snd = nw-refl vy; one = inr refl }
       go false e = record { fst = nw-refl vx; snd = record { left = vx; right = vy; test = e }; one = inl refl }
 
   -- the best of several is one of them, and no worse than any

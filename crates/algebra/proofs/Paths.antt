@@ -7,7 +7,7 @@ use lib.ListN.{length}
 use native.Mathlib.Omega.{arith}
 use native.Mathlib.Decide.{ℕ-discrete}
 use Rattle.algebra.specs.Path.{Mem, Below, Distinct, Simple, Matrix, pathWeight}
-use Rattle.algebra.proofs.Network.{Network}
+use Rattle.algebra.specs.Network.{Network}
 
 -- the rest of a simple path is simple
 pub simple-rest : {n i j k : ℕ} {p : List ℕ} → Simple n i j (k ∷ p) → Simple n k j p

@@ -15,7 +15,8 @@ use Rattle.algebra.specs.Best.{OfSimplePath, Best, best}
 use Rattle.algebra.specs.Step.{Step, row, settle, EveryRow, Stretches, fresh, routed, Solves, step, run, reached}
 use Rattle.algebra.specs.Demand.{HoldsBest}
 use Rattle.algebra.proofs.Orders.{NoWorse, nw-refl, nw-eq, nw-trans, nw-antisym}
-use Rattle.algebra.proofs.Network.{Network, nw-none}
+use Rattle.algebra.specs.Network.{Network}
+use Rattle.algebra.proofs.Joining.{nw-none}
 use Rattle.algebra.proofs.Bests.{best-is, best-nw-held, best-unique}
 use Rattle.algebra.proofs.Column.{Sane, Moved, moved-down, moved-sane, supported-held, fresh-sane, best-sane, stay-best, Near, near-fresh, near-down, near-routed, near-best}
 

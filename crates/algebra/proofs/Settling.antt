@@ -13,7 +13,7 @@ use Rattle.algebra.specs.Path.{Mem, Matrix}
 use Rattle.algebra.specs.Best.{best}
 use Rattle.algebra.specs.Step.{Step, row, EveryRow, Stretches, sweep, sweeps, fresh, routed, step, run, reached}
 use Rattle.algebra.proofs.Orders.{below-suc}
-use Rattle.algebra.proofs.Network.{Network}
+use Rattle.algebra.specs.Network.{Network}
 use Rattle.algebra.proofs.Enumeration.{mem-left, mem-right}
 use Rattle.algebra.proofs.Bests.{best-is, best-unique}
 use Rattle.algebra.proofs.Reach.{swept-best}

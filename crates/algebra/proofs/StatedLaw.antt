@@ -38,5 +38,5 @@ module _ (𝓐 : Algebra) (𝓞 : Ordered (order 𝓐)) (join-valid : (x y : �
       go : (b : Bool) → better y x ≡ b → join s (pick (order 𝓐) x y) ≡ pick (order 𝓐) (join s x) (join s y)
       go false e = ap (join s) (pick-first x y e) ∙ sym (pick-first (join s x) (join s y) (d s x y vs vx vy e))
       go true e =
-          let f : better x y ≡ false = 𝓞 .total x y vx vy e in
+          let f : better x y ≡ false = 𝓞 .asym x y vx vy e in
           ap (join s) (pick-second x y vx vy f) ∙ sym (pick-second (join s x) (join s y) (join-valid s x vs vx) (join-valid s y vs vy) (d s y x vs vy vx f))

@@ -1,5 +1,5 @@
 -- The best weight over the paths from i to j that visit no node twice: `Best` says what it is, `best` computes it.
--- To be believed: `OfSimplePath` and `Best`. That `best` is `Best`, and that there is only one, are theorems (proofs/Best).
+-- To be believed: `OfSimplePath` and `Best`. That `best` is `Best`, and that there is only one, are theorems (proofs/Bests).
 use Prim.Native.Nat.{ℕ, zero, suc}
 use mathlib.Core.Path.{_≡_}
 use mathlib.Core.Bool.{Bool, true, false, cond, _||_}

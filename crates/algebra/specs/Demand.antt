@@ -1,5 +1,5 @@
 -- Demand 3, of a network A of n nodes and of the matrix that the steps reach from the fresh one.
--- To be believed: the record. That every lawful algebra meets it is the theorem `demand-3` (proofs/Demand).
+-- To be believed: the record. That every lawful algebra meets it is the theorem `demand-3` (proofs/Demands).
 use Prim.Native.Nat.{ℕ, suc, _≤_, _<_}
 use mathlib.Core.Path.{_≡_}
 use mathlib.Core.Bool.{false}

@@ -26,5 +26,5 @@ module _ (𝓞 : Order) where
   pub record Ordered : Type 0 where
     pub self : (x : Thing) → Valid x → better x x ≡ false
     pub chain : (x y z : Thing) → Valid x → Valid y → Valid z → better y x ≡ false → better z y ≡ false → better z x ≡ false
-    pub total : (x y : Thing) → Valid x → Valid y → better y x ≡ true → better x y ≡ false
+    pub asym : (x y : Thing) → Valid x → Valid y → better y x ≡ true → better x y ≡ false
     pub antisym : (x y : Thing) → Valid x → Valid y → better y x ≡ false → better x y ≡ false → x ≡ y

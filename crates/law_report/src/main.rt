@@ -7,8 +7,9 @@ use refusals::Refusal;
 use weights::Component;
 use weights::Language;
 
-// A line, as far as it is read: the number that is being read, and those before it.
+// A line, as far as it is read: whether a number is being read, that number, and those before it.
 struct Line {
+    within: bool,
     number: u32,
     read: usize,
     numbers: [u32; 9],
@@ -17,26 +18,23 @@ struct Line {
 fn empty() -> Line {
     let numbers = [0u32; 9];
     Line {
+        within: false,
         number: 0,
         read: 0,
         numbers: numbers,
     }
 }
 
-// Limits are 16-bit numbers: a larger one counts as the largest.
-fn limit(number: u32) -> u16 {
-    if number < 65535 {
-        return number as u16;
-    }
-    65535
-}
-
-// An unknown kind becomes width 0, which is refused with 4 at its place, as an unknown kind is to be.
+// Limits are 16-bit numbers. A larger one, and an unknown kind, become width 0, which is refused with 4 at its place.
 fn component(kind: u32, number: u32) -> Component {
+    if 65535 < number {
+        return Component::Width(0);
+    }
+    let limit = number as u16;
     match kind {
         1 => Component::Dist,
-        2 => Component::Width(limit(number)),
-        3 => Component::Class(limit(number)),
+        2 => Component::Width(limit),
+        3 => Component::Class(limit),
         4 => Component::Gain,
         _ => Component::Width(0),
     }
@@ -105,13 +103,17 @@ fn print_report(l: Language) {
     }
 }
 
-// The number that was being read is one of the line's.
+// The number that was being read, if one was, is one of the line's.
 fn number_ends(line: Line) -> Line {
+    if !line.within {
+        return line;
+    }
     let mut numbers = line.numbers;
     let read = line.read;
     if read < 9 {
         numbers[read] = line.number;
         return Line {
+            within: false,
             number: 0,
             read: read + 1,
             numbers: numbers,
@@ -120,8 +122,12 @@ fn number_ends(line: Line) -> Line {
     line
 }
 
+// A line without a number is passed over.
 fn line_ends(line: Line) -> Line {
     let whole = number_ends(line);
+    if whole.read == 0 {
+        return empty();
+    }
     let numbers = whole.numbers;
     let l = language(numbers);
     print_report(l);
@@ -143,6 +149,7 @@ fn digit(line: Line, byte: u8) -> Line {
     let numbers = line.numbers;
     let number = appended(line.number, byte);
     Line {
+        within: true,
         number: number,
         read: line.read,
         numbers: numbers,
@@ -176,6 +183,7 @@ fn main() {
         let got = io::read_full(0, &mut bytes);
         line = take_bytes(&bytes[..got], line);
         if got < 4096 {
+            line_ends(line);
             return;
         }
         rounds += 1;

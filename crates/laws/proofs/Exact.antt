@@ -12,13 +12,16 @@ use Rattle.refusals.specs.Told.{told, done}
 use Rattle.refusals.specs.declared.Check.{Check}
 use Rattle.refusals.specs.declared.Check.the-variants.{Passed, Refused}
 use Rattle.refusals.proofs.OneToOne.{told-one, told-not-done}
-use Rattle.refusals.proofs.First.{Gives, first-exactly}
+use Rattle.refusals.specs.Checks.{Gives, firstOf}
+use Rattle.refusals.proofs.First.{first-exactly, first-passes, pass-first, passed-not}
 use Rattle.weights.specs.declared.Language.{Language}
-use Rattle.weights.specs.Weights.{route, unit, unitValues}
+use Rattle.weights.specs.declared.Component.{Component}
+use Rattle.weights.specs.Sizes.{places}
+use Rattle.weights.specs.Weights.{Sound, route, unit, unitValues}
 use Rattle.weights.specs.Laws.{LawD, LawU, LawC, testD, testU, testC, sD, xD, yD, xU, sC, BreaksD, BreaksU, BreaksC}
 use Rattle.weights.specs.Languages.{componentsOf, countCheck, limitCheck, languageCheck}
 use Rattle.weights.proofs.Decided.{D-exact, U-exact, C-exact, D-broken, U-broken, C-broken}
-use Rattle.weights.proofs.Checking.{check-sound}
+use Rattle.weights.proofs.Checking.{check-sound, sound-count, count-in, limits-exact}
 use Rattle.laws.specs.declared.Words.{Words}
 use Rattle.laws.specs.declared.Law.{Law}
 use Rattle.laws.specs.declared.LawAnswer.{LawAnswer}
@@ -72,6 +75,34 @@ module _ (l : Language) (e : languageCheck l ≡ Passed) where
   C-shown h =
       let q : testC (componentsOf l) ≡ false = sym (ap (λ (r : Report). r .lawC .held) told-laws) ∙ h in
       shown (report l .lawC) (testC (componentsOf l)) (sC (componentsOf l)) (unitValues (componentsOf l)) (sC (componentsOf l)) _ (ap (λ (r : Report). r .lawC) told-laws) q (C-broken (componentsOf l) (check-sound l e) q)
+
+-- ---- the same from an answer that gives the three laws
+
+-- an answer with the laws is given exactly for a language of 1 to 4 components with sound limits
+pub laws-exactly : (l : Language) → (report l .told ≡ done) ↔ ((1 ≤ l .count) × (l .count ≤ places) × Sound (componentsOf l))
+laws-exactly l = (λ e. sound-count l (passes (languageCheck l) refl e), λ h. ap (λ (k : Check). reportOf k (componentsOf l) .told) (count-in l (h .0) (h .1) ∙ limits-exact (componentsOf l) .1 (h .2)))
+  where
+    passes : (k : Check) → languageCheck l ≡ k → reportOf k (componentsOf l) .told ≡ done → languageCheck l ≡ Passed
+    passes Passed p e = p
+    passes (Refused r) p e = absurd (told-not-done r e)
+
+-- what an answer with the laws says of the language
+pub record LawsHold (cs : List Component) (d u c : Law) : Type 0 where
+  pub holds-D : (d .held ≡ true) ↔ LawD cs
+  pub holds-U : (u .held ≡ true) ↔ LawU cs
+  pub holds-C : (c .held ≡ true) ↔ LawC cs
+
+pub answer-laws : (l : Language) (d u c : Law) → answerRow (Laws d u c) ≡ report l → LawsHold (componentsOf l) d u c
+answer-laws l d u c e =
+    let p : languageCheck l ≡ Passed = passed-by l (sym (ap (λ (r : Report). r .told) e)) in
+    record {
+      holds-D = same-test l p (ap (λ (r : Report). r .lawD .held) e) (D-reported l p);
+      holds-U = same-test l p (ap (λ (r : Report). r .lawU .held) e) (U-reported l p);
+      holds-C = same-test l p (ap (λ (r : Report). r .lawC .held) e) (C-reported l p);
+    }
+  where
+    passed-by : (l : Language) → report l .told ≡ done → languageCheck l ≡ Passed
+    passed-by l e = let h = laws-exactly l .0 e in count-in l (h .0) (h .1) ∙ limits-exact (componentsOf l) .1 (h .2)
 
 -- ---- the refusals
 

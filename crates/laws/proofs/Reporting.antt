@@ -45,7 +45,7 @@ held-words r {t} {b} s x y e f h p q k =
 
 -- D: the flags of a lossy place before a non-trivial one, the flags after it, and three words laid over the units
 module _ (cs : List Component) {l f b : List Bool} {t : Bool} (el : l ≡ map lossy cs) (ef : f ≡ map nonTrivial cs) (eb : b ≡ beforeFlag l f) (et : t ≡ someFlag b) where
-  test-d : testD cs ≡ not t
+  pub test-d : testD cs ≡ not t
   test-d = rw (et, eb, el, ef) (sym (testD-any cs))
 
   pub broken-d : (r : Law) {g : List Bool} {u v w k : List ℕ} → t ≡ true → g ≡ afterFlag b f → u ≡ unitValues cs → v ≡ map worst cs → wordsOf (r .s) ≡ overAt b v u
@@ -68,7 +68,7 @@ module _ (cs : List Component) {l f b : List Bool} {t : Bool} (el : l ≡ map lo
 
 -- U: the flags of the gains, and a word 1 laid over the units
 module _ (cs : List Component) {g : List Bool} {t : Bool} (eg : g ≡ map isGain cs) (et : t ≡ someFlag g) where
-  test-u : testU cs ≡ not t
+  pub test-u : testU cs ≡ not t
   test-u = rw (et, eg) (sym (testU-any cs))
 
   pub broken-u : (r : Law) {u v : List ℕ} → t ≡ true → wordsOf (r .s) ≡ noWords → u ≡ unitValues cs → v ≡ map (λ c. 1) cs → wordsOf (r .x) ≡ overAt g v u → wordsOf (r .y) ≡ noWords → r .held ≡ false
@@ -84,7 +84,7 @@ module _ (cs : List Component) {g : List Bool} {t : Bool} (eg : g ≡ map isGain
 
 -- C: the flags of the lossy places, and the worst laid over the units
 module _ (cs : List Component) {l : List Bool} {t : Bool} (el : l ≡ map lossy cs) (et : t ≡ someFlag l) where
-  test-c : testC cs ≡ not t
+  pub test-c : testC cs ≡ not t
   test-c = rw (et, el) (sym (testC-any cs))
 
   pub broken-c : (r : Law) {v : List ℕ} → t ≡ true → wordsOf (r .x) ≡ unitValues cs → v ≡ map worst cs → wordsOf (r .s) ≡ overAt l v (wordsOf (r .x)) → wordsOf (r .y) ≡ wordsOf (r .s) → r .held ≡ false

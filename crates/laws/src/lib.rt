@@ -60,8 +60,8 @@ fn lossy(c: Component) -> bool
 {
     match c {
         Component::Dist => false,
-        Component::Width(w) => w != 1,
-        Component::Class(k) => k != 0,
+        Component::Width(limit) => limit != 1,
+        Component::Class(limit) => limit != 0,
         Component::Gain => false,
     }
 }
@@ -472,6 +472,32 @@ fn law_c(p: Places) -> Law
         x: z,
         y: z,
     }
+}
+
+// Law D holds.
+pub fn has_d(p: Places) -> bool
+    ensures { λ r. ⌜ r ≡ testD (placesOf p) ⌝ }
+{
+    let l = lossy_flags(p);
+    let f = non_trivial_flags(p);
+    let b = before_flag(l, f);
+    !some_flag(b)
+}
+
+// Law U holds.
+pub fn has_u(p: Places) -> bool
+    ensures { λ r. ⌜ r ≡ testU (placesOf p) ⌝ }
+{
+    let g = gain_flags(p);
+    !some_flag(g)
+}
+
+// Law C holds.
+pub fn has_c(p: Places) -> bool
+    ensures { λ r. ⌜ r ≡ testC (placesOf p) ⌝ }
+{
+    let l = lossy_flags(p);
+    !some_flag(l)
 }
 
 // The law report of a language; it refuses 5, then 4.

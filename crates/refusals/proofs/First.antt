@@ -7,17 +7,7 @@ use native.Mathlib.Omega.{arith}
 use Rattle.refusals.specs.declared.Refusal.{Refusal}
 use Rattle.refusals.specs.declared.Check.{Check}
 use Rattle.refusals.specs.declared.Check.the-variants.{Passed, Refused}
-use Rattle.refusals.specs.Checks.{orElse, firstOf}
-
--- every check of the list passes
-abbrev pub Pass : List Check → Type 0
-Pass [] = Unit {0}
-Pass (c ∷ cs) = (c ≡ Passed) × Pass cs
-
--- some check of the list gives r, and all before it pass
-abbrev pub Gives : List Check → Refusal → Type 0
-Gives [] r = ⊥
-Gives (c ∷ cs) r = (c ≡ Refused r) ⊎ ((c ≡ Passed) × Gives cs r)
+use Rattle.refusals.specs.Checks.{orElse, firstOf, Pass, Gives}
 
 -- to pass is not to refuse
 pub passed-not : (r : Refusal) → _≡_ {A = Check} Passed (Refused r) → ⊥

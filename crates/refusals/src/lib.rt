@@ -6,8 +6,8 @@ pub enum Refusal {
     Bytes { which: u32, place: u32 },
     Version { which: u32, place: u32 },
     Size { which: u32, place: u32 },
-    Component { which: u32, place: u32 },
-    Count { which: u32, place: u32 },
+    BadComponent { which: u32, place: u32 },
+    BadCount { which: u32, place: u32 },
     Value { which: u32, place: u32 },
     NoSuch { which: u32, place: u32 },
     NotAscending { which: u32, place: u32 },
@@ -21,6 +21,12 @@ pub enum Refusal {
 // What a check gives.
 pub enum Check {
     Passed,
+    Refused(Refusal),
+}
+
+// The answer of a call that gives no number: done, or refused.
+pub enum Answer {
+    Done,
     Refused(Refusal),
 }
 
@@ -49,8 +55,8 @@ pub fn tell(r: Refusal) -> Told
         Refusal::Bytes { which, place } => row(1, which, place),
         Refusal::Version { which, place } => row(2, which, place),
         Refusal::Size { which, place } => row(3, which, place),
-        Refusal::Component { which, place } => row(4, which, place),
-        Refusal::Count { which, place } => row(5, which, place),
+        Refusal::BadComponent { which, place } => row(4, which, place),
+        Refusal::BadCount { which, place } => row(5, which, place),
         Refusal::Value { which, place } => row(6, which, place),
         Refusal::NoSuch { which, place } => row(7, which, place),
         Refusal::NotAscending { which, place } => row(8, which, place),

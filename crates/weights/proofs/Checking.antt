@@ -9,10 +9,10 @@ use borrow.Author.Tests.{lt-leb, le-leb, leb-true, lt-ltb, le-ltb}
 use lib.Dec.{leb, ltb}
 use lib.ListN.{length, take, length-take}
 use Rattle.refusals.specs.declared.Refusal.{Refusal}
-use Rattle.refusals.specs.declared.Refusal.the-variants.{Component as BadComponent, Count as BadCount}
+use Rattle.refusals.specs.declared.Refusal.the-variants.{BadComponent, BadCount}
 use Rattle.refusals.specs.declared.Check.{Check}
 use Rattle.refusals.specs.declared.Check.the-variants.{Passed, Refused}
-use Rattle.refusals.specs.Checks.{orElse, firstOf}
+use Rattle.refusals.specs.Checks.{unless, orElse, firstOf}
 use Rattle.refusals.proofs.First.{passed-not, first-passes}
 use Rattle.weights.specs.declared.Component.{Component}
 use Rattle.weights.specs.declared.Component.the-variants.{Dist, Width, Class, Gain}
@@ -113,3 +113,12 @@ bad-none p e f g h = rw (e, f, g, h)
 -- a language that passes has sound limits
 pub check-sound : (l : Language) → languageCheck l ≡ Passed → Sound (componentsOf l)
 check-sound l e = limits-sound 0 (componentsOf l) (first-passes (countCheck l ∷ limitCheck l ∷ []) e .1 .0)
+
+-- .. and a count of 1 to 4
+pub sound-count : (l : Language) → languageCheck l ≡ Passed → (1 ≤ l .count) × (l .count ≤ places) × Sound (componentsOf l)
+sound-count l e = go (leb 1 (l .count)) (leb (l .count) places) refl refl (first-passes (countCheck l ∷ limitCheck l ∷ []) e .0)
+  where
+    go : (a b : Bool) → leb 1 (l .count) ≡ a → leb (l .count) places ≡ b → unless (a && b) (BadCount 0 0) ≡ Passed → (1 ≤ l .count) × (l .count ≤ places) × Sound (componentsOf l)
+    go true true p q h = (leb-true 1 (l .count) p, leb-true (l .count) places q, check-sound l e)
+    go true false p q h = absurd (passed-not (BadCount 0 0) (sym h))
+    go false b p q h = absurd (passed-not (BadCount 0 0) (sym h))

@@ -10,9 +10,9 @@ use borrow.Author.Tests.{eq-eqb, ne-eqb, eqb-true}
 use Rattle.weights.specs.declared.Component.{Component}
 use Rattle.weights.specs.declared.Comparison.{Comparison}
 use Rattle.weights.specs.declared.Comparison.the-variants.{Better, Equal, Worse}
-use Rattle.weights.specs.Weights.{Weight, none, route, betterValue, betterValues, better}
+use Rattle.weights.specs.Weights.{Weight, none, route, Valid, betterValue, betterValues, better}
 use Rattle.weights.specs.Languages.{compared, same, sameValues}
-use Rattle.weights.proofs.Ordering.{Three, ahead, level, behind, three1, lt-better, lt-worse, clash}
+use Rattle.weights.proofs.Ordering.{Three, ahead, level, behind, three1, lt-better, lt-worse, clash, irrefl, asym, antisym}
 
 -- values that differ decide
 pub differs : (c : Component) {x y : ℕ} {r : Comparison} → (x ≡ y → ⊥) → r ≡ cond (betterValue c x y) Better Worse → r ≡ cond (betterValue c x y) Better (cond (betterValue c y x) Worse Equal)
@@ -57,6 +57,25 @@ is-worse cs x y = go (better cs x y) (better cs y x)
     go : (a b : Bool) → cond a Better (cond b Worse Equal) ≡ Worse → a ≡ false
     go true b e = apart Better Worse (λ q. omega arith) e
     go false b e = refl
+
+-- equal exactly where the weights are the same, and worse exactly where the other is better
+pub equal-same : (cs : List Component) (x y : Weight) → Valid cs x → Valid cs y → (compared cs x y ≡ Equal) ↔ (x ≡ y)
+unfolding tag
+equal-same cs x y vx vy = (λ e. antisym cs x y vx vy (there (better cs x y) (better cs y x) e) (is-equal cs x y e), λ e. rw (e, irrefl cs y))
+  where
+    there : (a b : Bool) → cond a Better (cond b Worse Equal) ≡ Equal → b ≡ false
+    there true b e = apart Better Equal (λ q. omega arith) e
+    there false true e = apart Worse Equal (λ q. omega arith) e
+    there false false e = refl
+
+pub worse-better : (cs : List Component) (x y : Weight) → (compared cs x y ≡ Worse) ↔ (better cs y x ≡ true)
+unfolding tag
+worse-better cs x y = (there (better cs x y) (better cs y x), λ e. rw (asym cs y x e, e))
+  where
+    there : (a b : Bool) → cond a Better (cond b Worse Equal) ≡ Worse → b ≡ true
+    there true b e = apart Better Worse (λ q. omega arith) e
+    there false true e = refl
+    there false false e = apart Equal Worse (λ q. omega arith) e
 
 -- ---- the test of equality
 

@@ -1,20 +1,26 @@
--- A language whose limits are sound, with the tests of D and U true, is a lawful algebra.
-use mathlib.Core.Path.{_≡_, refl, sym, subst}
-use mathlib.Core.Bool.{Bool, true, false}
+-- A language with sound limits and the laws D and U is a lawful algebra, so it meets demand 3.
+use Prim.Native.Nat.{ℕ}
+use mathlib.Core.Path.{_≡_, refl}
+use mathlib.Core.Bool.{true, false}
 use mathlib.Core.List.{List, [], _∷_}
 use Rattle.algebra.specs.Algebra.{Algebra, order, Lawful}
 use Rattle.algebra.specs.Order.{Ordered}
+use Rattle.algebra.specs.Path.{Matrix, ValidMatrix}
+use Rattle.algebra.specs.Network.{Network}
+use Rattle.algebra.specs.Step.{Step}
+use Rattle.algebra.specs.Demand.{Demand3}
+use Rattle.algebra.proofs.Demands.{demand-3}
 use Rattle.weights.specs.declared.Component.{Component}
 use Rattle.weights.specs.Weights.{Weight, none, route, Valid, Sound, better, join, unit, language}
-use Rattle.weights.specs.Laws.{testD, testU}
+use Rattle.weights.specs.Laws.{LawD, LawU, testD, testU}
 use Rattle.weights.proofs.Ordering.{NoWorse, irrefl, asym, antisym, noWorse-trans, join-comm, join-assoc, join-unit, join-valid, unit-valid}
-use Rattle.weights.proofs.Decided.{monotone, U-holds}
+use Rattle.weights.proofs.Decided.{monotone, U-holds, D-exact, U-exact}
 
 pub ordered : (cs : List Component) → Ordered (order (language cs))
 ordered cs = record {
   self = λ x v. irrefl cs x;
   chain = λ x y z vx vy vz. noWorse-trans cs x y z vx vy vz;
-  total = λ x y vx vy. asym cs y x;
+  asym = λ x y vx vy. asym cs y x;
   antisym = λ x y vx vy. antisym cs x y vx vy;
 }
 
@@ -25,6 +31,7 @@ absorbs-none : (cs : List Component) (x : Weight) → join cs x none ≡ none
 absorbs-none cs none = refl
 absorbs-none cs (route xs) = refl
 
+-- by the tests
 pub lawful : (cs : List Component) → Sound cs → testD cs ≡ true → testU cs ≡ true → Lawful (language cs)
 lawful cs s d u = record {
   ordered = ordered cs;
@@ -39,3 +46,11 @@ lawful cs s d u = record {
   law-D = monotone cs d;
   law-U = U-holds cs u;
 }
+
+-- by the laws themselves, over all weights
+pub lawful-by-laws : (cs : List Component) → Sound cs → LawD cs → LawU cs → Lawful (language cs)
+lawful-by-laws cs s d u = lawful cs s (D-exact cs s .1 d) (U-exact cs s .1 u)
+
+-- Demand 3 of a language: one network of n nodes whose arcs are weights of the language, and any steps from fresh.
+pub language-demand-3 : (cs : List Component) → Sound cs → LawD cs → LawU cs → (n : ℕ) (A : Matrix (language cs)) → ValidMatrix (language cs) n A → (steps : List Step) → Demand3 (language cs) n A steps
+language-demand-3 cs s d u n A v steps = demand-3 (record { 𝓐 = language cs; 𝓛 = lawful-by-laws cs s d u; n = n; A = A; arcs-valid = v }) steps

@@ -7,3 +7,5 @@ pub mod Checking
 pub mod Compared
 pub mod Worked
 pub mod Unique
+pub mod Readings
+pub mod Sums

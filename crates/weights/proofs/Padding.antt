@@ -121,6 +121,11 @@ sound-pad zero cs s = tt
 sound-pad (suc n) [] s = (tt, sound-pad n [] s)
 sound-pad (suc n) (c ∷ cs) s = (s .0, sound-pad n cs (s .1))
 
+pub sound-unpad : (n : ℕ) (cs : List Component) → length cs ≤ n → Sound (padded n cs) → Sound cs
+sound-unpad n [] h s = tt
+sound-unpad zero (c ∷ cs) h s = absurd (omega arith)
+sound-unpad (suc n) (c ∷ cs) h s = (s .0, sound-unpad n cs (omega arith) (s .1))
+
 -- ---- the padded language holds the language
 
 -- a weight with words 0 after its values

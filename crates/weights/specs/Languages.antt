@@ -6,7 +6,7 @@ use mathlib.Core.Bool.{Bool, true, false, cond, _&&_}
 use mathlib.Core.List.{List, [], _∷_}
 use lib.Dec.{leb, eqb}
 use lib.ListN.{take}
-use Rattle.refusals.specs.declared.Refusal.the-variants.{Component as BadComponent, Count as BadCount}
+use Rattle.refusals.specs.declared.Refusal.the-variants.{BadComponent, BadCount}
 use Rattle.refusals.specs.declared.Check.{Check}
 use Rattle.refusals.specs.declared.Check.the-variants.{Passed, Refused}
 use Rattle.refusals.specs.Checks.{unless, firstOf}

@@ -51,6 +51,10 @@ pub data Reading : Type 0 where
 abbrev pub reading : ℕ → List Component → List ℕ → Reading
 reading cap cs ws = cond (allAre ones ws) (good none) (cond (fits cap cs ws) (good (route (take (length cs) ws))) malformed)
 
+abbrev pub isGood : Reading → Bool
+isGood (good w) = true
+isGood malformed = false
+
 -- what the code's answer of reading says
 abbrev pub readOf : Read → Reading
 readOf (Good w) = good (weightOf w)

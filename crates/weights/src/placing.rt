@@ -56,10 +56,10 @@ pub fn check(l: Language) -> Checked
 {
     let n = l.count;
     if n < 1 {
-        return Checked::Unsound(Refusal::Count { which: 0, place: 0 });
+        return Checked::Unsound(Refusal::BadCount { which: 0, place: 0 });
     }
     if PLACES < n {
-        return Checked::Unsound(Refusal::Count { which: 0, place: 0 });
+        return Checked::Unsound(Refusal::BadCount { which: 0, place: 0 });
     }
     let p = placed(l);
     let one = p.first;
@@ -67,16 +67,16 @@ pub fn check(l: Language) -> Checked
     let three = p.third;
     let four = p.fourth;
     if !sound_limit(one) {
-        return Checked::Unsound(Refusal::Component { which: 0, place: 0 });
+        return Checked::Unsound(Refusal::BadComponent { which: 0, place: 0 });
     }
     if !sound_limit(two) {
-        return Checked::Unsound(Refusal::Component { which: 0, place: 1 });
+        return Checked::Unsound(Refusal::BadComponent { which: 0, place: 1 });
     }
     if !sound_limit(three) {
-        return Checked::Unsound(Refusal::Component { which: 0, place: 2 });
+        return Checked::Unsound(Refusal::BadComponent { which: 0, place: 2 });
     }
     if !sound_limit(four) {
-        return Checked::Unsound(Refusal::Component { which: 0, place: 3 });
+        return Checked::Unsound(Refusal::BadComponent { which: 0, place: 3 });
     }
     Checked::Sound(p)
 }

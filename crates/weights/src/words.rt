@@ -13,7 +13,7 @@ ghost use Rattle.weights.specs.Sizes.{places, weightWords, ones};
 ghost use Rattle.weights.specs.Languages.{placesOf, weightOf};
 ghost use Rattle.weights.specs.Words.{words, allAre, inRange, fits, reading, readOf, decoded};
 
-fn in_range(c: Component, cap: u32, v: u32) -> bool
+pub fn in_range(c: Component, cap: u32, v: u32) -> bool
     ensures { λ r. ⌜ r ≡ inRange cap c v ⌝ }
 {
     match c {

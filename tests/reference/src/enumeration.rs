@@ -43,28 +43,52 @@ impl Numbered {
         joined(&numbers)
     }
 
-    /// The text of its law report: three laws with their words, or the refusal.
+    /// The text of its law report.
     pub fn report(&self) -> String {
-        let report = laws(&self.language());
-        let refusal = report.refusal;
-        if refusal.number != 0 {
-            return format!(
-                "REFUSED {} {} {}\n",
-                refusal.number, refusal.which, refusal.place
-            );
-        }
-        let law = |index: usize| {
-            let words = &report.words[index];
-            let verdict = if report.held[index] { "held" } else { "broken" };
-            let (s, x, y) = (
-                joined(&words[0..4]),
-                joined(&words[4..8]),
-                joined(&words[8..12]),
-            );
-            format!("{} {verdict}: s {s} x {x} y {y}\n", ["D", "U", "C"][index])
-        };
-        [0, 1, 2].map(law).concat()
+        report(&self.language())
     }
+}
+
+/// The text of a law report: three laws with their words, or the refusal.
+fn report(language: &Language) -> String {
+    let report = laws(language);
+    let refusal = report.refusal;
+    if refusal.number != 0 {
+        return format!(
+            "REFUSED {} {} {}\n",
+            refusal.number, refusal.which, refusal.place
+        );
+    }
+    let law = |index: usize| {
+        let words = &report.words[index];
+        let verdict = if report.held[index] { "held" } else { "broken" };
+        let (s, x, y) = (
+            joined(&words[0..4]),
+            joined(&words[4..8]),
+            joined(&words[8..12]),
+        );
+        format!("{} {verdict}: s {s} x {x} y {y}\n", ["D", "U", "C"][index])
+    };
+    [0, 1, 2].map(law).concat()
+}
+
+/// Lines off the list, each with its report: kinds and limits that there are none of, which are refused with 4 where they
+/// count and ignored where they do not, and numbers set apart by more than a space.
+pub fn odd_lines() -> Vec<(&'static str, String)> {
+    let refused = |place: u32| format!("REFUSED 4 0 {place}\n");
+    let dist = Numbered {
+        count: 1,
+        places: [0; 4],
+    }
+    .report();
+    vec![
+        ("1 0 0 1 0 1 0 1 0\n", refused(0)),
+        ("2 1 0 5 7 1 0 1 0\n", refused(1)),
+        ("4 1 0 1 0 1 0 2 65536\n", refused(3)),
+        ("1 1 0 9 9 0 0 2 99999\n", dist.clone()),
+        ("\n", String::new()),
+        ("  1   1\t0", dist),
+    ]
 }
 
 fn kind_and_limit(component: Component) -> [u32; 2] {

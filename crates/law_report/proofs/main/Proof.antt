@@ -33,6 +33,9 @@ slice-aggregate-take-bytes c = search needs
 take-bytes-requires : tie.Need-take-bytes-requires Inv-loop μ-loop
 take-bytes-requires c κs = search needs
 
+line-ends-requires : tie.Need-line-ends-requires Inv-loop μ-loop
+line-ends-requires c κs = search needs
+
 returns : tie.Need-returns Inv-loop μ-loop
 returns c = search needs
 
@@ -62,6 +65,7 @@ main-spec =
     array-share-prefix-bytes
     slice-aggregate-take-bytes
     take-bytes-requires
+    line-ends-requires
     returns
     add-rounds
     loop-less

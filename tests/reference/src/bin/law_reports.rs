@@ -13,5 +13,8 @@ fn main() -> io::Result<()> {
             write!(output, "{}", language.report())?;
         }
     }
+    for (line, report) in reference::enumeration::odd_lines() {
+        write!(output, "{}", if inputs { line } else { report.as_str() })?;
+    }
     output.flush()
 }

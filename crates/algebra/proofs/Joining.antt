@@ -1,17 +1,8 @@
--- A lawful algebra, a number of nodes and a valid matrix of arcs, in one record: what the theorems on routes are about.
-use Prim.Native.Nat.{ℕ}
+-- Weights of a lawful algebra, no worse than one another: no route, join, and that joining never improves.
 use mathlib.Core.Path.{_≡_, refl, sym, _∙_, subst}
 use mathlib.Core.Bool.{false}
 use Rattle.algebra.specs.Algebra.{Algebra, order, Lawful}
-use Rattle.algebra.specs.Path.{Matrix, ValidMatrix}
 use Rattle.algebra.proofs.Orders.{NoWorse}
-
-pub record Network : Type 1 where
-  pub 𝓐 : Algebra
-  pub 𝓛 : Lawful 𝓐
-  pub n : ℕ
-  pub A : Matrix 𝓐
-  pub arcs-valid : ValidMatrix 𝓐 n A
 
 module _ (𝓐 : Algebra) (𝓛 : Lawful 𝓐) where
   open Algebra 𝓐 using (Weight, Valid, better, join, unit, none)

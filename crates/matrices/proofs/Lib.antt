@@ -1,0 +1,11 @@
+pub mod Every
+pub mod Blocks
+pub mod Entries
+pub mod Bounds
+pub mod Malformed
+pub mod Rounds
+pub mod Alone
+pub mod Sums
+pub mod Passes
+pub mod Written
+pub mod Kept

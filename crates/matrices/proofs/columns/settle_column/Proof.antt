@@ -1,0 +1,69 @@
+use Prim.Native.Nat.{_*_, _-_, _≤_}
+use mathlib.Core.Path.{refl}
+use native.Mathlib.Omega.{arith}
+use lib.ListN.{length}
+use Rattle.weights.specs.Sizes.{weightWords}
+use Rattle.matrices.proofs.Passes.{Settling, settling-none, settling-held, settling-more, settling-next, settling-all}
+use Rattle.matrices.proofs.columns.settle_column.Statement.{statement}
+use Rattle.matrices.proofs.columns.settle_column.Tie as tie
+
+abbrev Inv-loop : tie.InvT-loop
+Inv-loop p n a j col₀ t₀ col t = (1 ≤ t) × (n * weightWords ≤ length col₀) × Settling p n a j col₀ (t - 1) col
+
+abbrev μ-loop : tie.MeasureT-loop
+μ-loop p n a j col₀ t₀ col t = n - t
+
+few : (s : tie.Start Inv-loop μ-loop) → s .args .n ≤ 16
+few s = s .pre .0 .arcs .square .few
+
+fresh-row-requires : tie.Need-fresh-row-requires Inv-loop μ-loop
+fresh-row-requires c κs = let s = c .before .before .before in (few s, s .pre .1)
+
+loop-holds : tie.Need-loop-holds Inv-loop μ-loop
+loop-holds c = (omega arith, omega arith, settling-none _ _ _ _ _ _ _ (c .before .before .fresh-row .ensures) refl)
+
+pass-requires : tie.Need-pass-requires Inv-loop μ-loop
+pass-requires c κs =
+    let l = c .before .before in
+    let s = l .before .before .before .before .before .before .before in
+    (s .pre .0, settling-held (s .args .p) (s .args .n) (s .args .a .now) (s .pre .0) (s .args .j) _ (l .loop .inv .1) (l .loop .t - 1) (l .loop .col) (l .loop .inv .2))
+
+add-t : tie.Need-add-t Inv-loop μ-loop
+add-t c = omega (arith, few (c .before .before .before .before .before .before .before .before .before .before .before .before))
+
+loop-less : tie.Need-loop-less Inv-loop μ-loop
+loop-less c = omega arith
+
+loop-again : tie.Need-loop-again Inv-loop μ-loop
+loop-again c =
+    let l = c .before .before .before .before .before in
+    let s = l .before .before .before .before .before .before .before in (
+      omega arith,
+      l .loop .inv .1,
+      settling-next (s .args .p) (s .args .n) (s .args .a .now) (s .args .j) _ (l .loop .t) _ (l .loop .inv .0)
+          (settling-more (s .args .p) (s .args .n) (s .args .a .now) (s .pre .0) (s .args .j) _ (l .loop .inv .1) (l .loop .t - 1) (l .loop .col) _ (l .loop .inv .2) (c .before .before .pass .ensures)),
+    )
+
+same-length : tie.Need-same-length Inv-loop μ-loop
+same-length c = omega arith
+
+returns : tie.Need-returns Inv-loop μ-loop
+returns c =
+    let l = c .before in
+    let s = l .before .before .before .before .before .before .before in
+    settling-all (s .args .p) (s .args .n) (s .args .a .now) (s .pre .0) (s .args .j) (s .args .col .now) _ (l .loop .t - 1) (l .loop .col) (l .loop .inv .2) (omega arith) (l .before .before .before .fresh-row .ensures)
+
+pub settle-column-spec : {M : Type 1} → statement M
+settle-column-spec =
+    tie.close
+    (tie.spec
+    Inv-loop
+    μ-loop
+    fresh-row-requires
+    loop-holds
+    pass-requires
+    add-t
+    loop-less
+    loop-again
+    same-length
+    returns)

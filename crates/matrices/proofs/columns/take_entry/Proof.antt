@@ -1,0 +1,53 @@
+use mathlib.Core.Path.{sym, ap, _∙_, subst}
+use lib.Dec.{lit≤}
+use Rattle.algebra.specs.Order.{pick}
+use Rattle.weights.specs.Sizes.{arcSum}
+use Rattle.weights.specs.Weights.{join, betterOf}
+use Rattle.weights.specs.Languages.{placesOf, weightOf, AtMost}
+use Rattle.matrices.proofs.Entries.{cell-is}
+use Rattle.matrices.proofs.Bounds.{most-weaken}
+use borrow.Author.Needs.{needs}
+use Rattle.matrices.proofs.columns.take_entry.Statement.{statement}
+use Rattle.matrices.proofs.columns.take_entry.Tie as tie
+
+enum-told : tie.Need-enum-told
+enum-told c = search needs
+
+enum-told-2 : tie.Need-enum-told-2
+enum-told-2 c = search needs
+
+returns : tie.Need-returns
+unfolding pick
+returns c = search needs
+
+weight-at-requires : tie.Need-weight-at-requires
+weight-at-requires c κs = search needs
+
+join-requires : tie.Need-join-requires
+join-requires c κs =
+    let s = c .before .before .before .before in (
+      most-weaken arcSum 2147483647 (weightOf (s .args .x)) (lit≤ tt) (s .pre .1),
+      subst (AtMost 2147483647) (cell-is (s .args .col .now) (s .args .at) ∙ sym (c .weight-at .ensures)) (s .pre .2),
+    )
+
+better-of-requires : tie.Need-better-of-requires
+better-of-requires c κs = search needs
+
+returns-2 : tie.Need-returns-2
+returns-2 c =
+    let s = c .before .before .before .before .before .before in
+    let cs = placesOf (s .args .p) in
+    c .better-of .ensures
+    ∙ ap (betterOf cs (weightOf (s .args .w))) (c .before .join .ensures ∙ ap (join cs (weightOf (s .args .x))) (c .before .before .weight-at .ensures ∙ sym (cell-is (s .args .col .now) (s .args .at))))
+
+pub take-entry-spec : {M : Type 1} → statement M
+take-entry-spec =
+    tie.close
+    (tie.spec
+    enum-told
+    enum-told-2
+    returns
+    weight-at-requires
+    join-requires
+    better-of-requires
+    returns-2)

@@ -1,0 +1,97 @@
+-- What the inner functions say on the way to Buffers and Steps: one arc taken into a row, one pass over a column.
+-- They join the code to those; what has to be believed of it is `GivenArcs` and `column`, which `settle_column` cites.
+use Prim.Native.Nat.{ℕ, zero, suc, _*_, _≤_, _<_}
+use mathlib.Core.Path.{_≡_}
+use mathlib.Core.Bool.{Bool, true, cond, _&&_}
+use mathlib.Core.List.{List, [], _∷_}
+use lib.Dec.{leb, eqb}
+use lib.ListN.{length}
+use Rattle.algebra.specs.Algebra.{order}
+use Rattle.algebra.specs.Order.{bestOf}
+use Rattle.algebra.specs.Step.{fresh}
+use Rattle.weights.specs.declared.Component.{Component}
+use Rattle.weights.specs.declared.Component.the-variants.{Class}
+use Rattle.weights.specs.declared.Places.{Places}
+use Rattle.weights.specs.Sizes.{places, weightWords, arcSum, matrixSum}
+use Rattle.weights.specs.Weights.{Weight, none, route, Valid, Sound, join, betterOf, language}
+use Rattle.weights.specs.Laws.{testD, testU}
+use Rattle.weights.specs.Languages.{SmallLimits, AtMost, same}
+use Rattle.matrices.specs.Buffers.{Formed, rowIn}
+use Rattle.matrices.specs.Steps.{Matrix}
+
+-- ---- a row
+
+-- a row with the arc x, joined what y holds, taken into it
+abbrev pub folded : List Component → Weight → (ℕ → Weight) → (ℕ → Weight) → ℕ → Weight
+folded cs x y g j = betterOf cs (g j) (join cs x (y j))
+
+-- no value is above 983,025
+abbrev pub allLow : List ℕ → Bool
+allLow [] = true
+allLow (x ∷ xs) = leb x matrixSum && allLow xs
+
+abbrev pub low : Weight → Bool
+low none = true
+low (route xs) = allLow xs
+
+-- entry j of the row in a buffer is low
+abbrev pub lowAt : List ℕ → ℕ → Bool
+lowAt s j = low (rowIn places s j)
+
+-- two rows have the same entry at j
+abbrev pub sameAt : (ℕ → Weight) → (ℕ → Weight) → ℕ → Bool
+sameAt f g j = same (f j) (g j)
+
+-- ---- languages of one component
+
+-- a weight's first value, with words 0 after it
+abbrev pub firstOnly : Weight → Weight
+firstOnly none = none
+firstOnly (route []) = route []
+firstOnly (route (x ∷ xs)) = route (x ∷ 0 ∷ 0 ∷ 0 ∷ [])
+
+-- x joined y has no value but the first
+pub record Lone (cs : List Component) (x y : Weight) : Type 0 where
+  pub alone : join cs x y ≡ firstOnly (join cs x y)
+
+-- every place after the first is unused
+pub record Single (p : Places) : Type 0 where
+  pub second : p .second ≡ Class 0
+  pub third : p .third ≡ Class 0
+  pub fourth : p .fourth ≡ Class 0
+
+-- ---- a column
+
+abbrev pub column : Matrix → ℕ → ℕ → Weight
+column R j i = R i j
+
+-- the weight from i by way of k, where the column c holds what is known from k
+abbrev pub via : List Component → Matrix → (ℕ → Weight) → ℕ → ℕ → Weight
+via cs A c i k = join cs (A i k) (c k)
+
+-- what a row step of row i makes of the column c with target j
+abbrev pub renewed : List Component → ℕ → Matrix → ℕ → (ℕ → Weight) → ℕ → Weight
+renewed cs n A j c i = bestOf (order (language cs)) n (via cs A c i) (fresh (language cs) i j)
+
+-- the row steps 0 .. m - 1, in order, on a column
+unfoldable pub passed : List Component → ℕ → Matrix → ℕ → ℕ → (ℕ → Weight) → ℕ → Weight
+passed cs n A j zero c i = c i
+passed cs n A j (suc m) c i = cond (eqb i m) (renewed cs n A j (passed cs n A j m c) i) (passed cs n A j m c i)
+
+-- R with column j replaced
+abbrev pub setColumn : ℕ → (ℕ → Weight) → Matrix → Matrix
+setColumn j g R i v = cond (eqb v j) (g i) (R i v)
+
+-- A lawful language with small limits, and well-formed arcs.
+pub record GivenArcs (cs : List Component) (n : ℕ) (a : List ℕ) : Type 0 where
+  pub limits : SmallLimits 65535 cs
+  pub sound : Sound cs
+  pub law-D : testD cs ≡ true
+  pub law-U : testU cs ≡ true
+  pub arcs : Formed arcSum cs n a
+
+-- a column of weights, no value above cap, in the front of s
+pub record Held (cap : ℕ) (cs : List Component) (n : ℕ) (s : List ℕ) : Type 0 where
+  pub room : n * weightWords ≤ length s
+  pub valid : (i : ℕ) → i < n → Valid cs (rowIn places s i)
+  pub small : (i : ℕ) → i < n → AtMost cap (rowIn places s i)

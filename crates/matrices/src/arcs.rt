@@ -1,0 +1,134 @@
+// One arc taken into a whole row; in a language of one component only the first values are joined.
+use weights::Component;
+use weights::Places;
+use weights::WEIGHT_WORDS;
+use weights::Weight;
+ghost use mathlib.Core.Path.{_≡_};
+ghost use mathlib.Core.Bool.{true};
+ghost use mathlib.Core.List.{_++_};
+ghost use Prim.Native.Nat.{ℕ, _+_, _*_, _≤_, _<_};
+ghost use lib.ListN.{length, take, drop};
+ghost use Rattle.weights.specs.declared.Component.the-variants.{Class};
+ghost use Rattle.weights.specs.Sizes.{places, weightWords, arcSum, matrixSum};
+ghost use Rattle.weights.specs.Weights.{join, betterOf};
+ghost use Rattle.weights.specs.Languages.{placesOf, weightOf, AtMost};
+ghost use Rattle.weights.specs.Words.{words};
+ghost use Rattle.matrices.specs.Buffers.{rowWords, cell, rowIn, matrixIn, Square};
+ghost use Rattle.matrices.specs.Parts.{folded, Lone, Single};
+
+fn is_unused(c: Component) -> bool
+    ensures { λ b. ⌜ (b ≡ true → c ≡ Class 0) ⌝ }
+{
+    match c {
+        Component::Dist => false,
+        Component::Width(_) => false,
+        Component::Class(k) => k == 0,
+        Component::Gain => false,
+    }
+}
+
+// The language has one component.
+pub fn is_single(p: Places) -> bool
+    ensures { λ b. ⌜ (b ≡ true → Single p) ⌝ }
+{
+    let two = p.second;
+    let three = p.third;
+    let four = p.fourth;
+    if !is_unused(two) {
+        return false;
+    }
+    if !is_unused(three) {
+        return false;
+    }
+    is_unused(four)
+}
+
+// x joined y in a language of one component.
+fn join_first(p: Places, x: Weight, y: Weight) -> Weight
+    requires { ⌜ AtMost arcSum (weightOf x) × AtMost matrixSum (weightOf y) × Lone (placesOf p) (weightOf x) (weightOf y) ⌝ }
+    ensures { λ w. ⌜ weightOf w ≡ join (placesOf p) (weightOf x) (weightOf y) ⌝ }
+{
+    let Weight::Route {
+        first: a,
+        second: b,
+        third: c,
+        fourth: d,
+    } = x
+    else {
+        return Weight::NoRoute;
+    };
+    let Weight::Route {
+        first: e,
+        second: f,
+        third: g,
+        fourth: h,
+    } = y
+    else {
+        return Weight::NoRoute;
+    };
+    let one = p.first;
+    let first = weights::joining::join_value(one, a, e);
+    Weight::Route {
+        first,
+        second: 0,
+        third: 0,
+        fourth: 0,
+    }
+}
+
+// x joined y, the short way where the language is single.
+fn join_arc(p: Places, single: bool, x: Weight, y: Weight) -> Weight
+    requires { ⌜ AtMost arcSum (weightOf x) × AtMost matrixSum (weightOf y) × (single ≡ true → Lone (placesOf p) (weightOf x) (weightOf y)) ⌝ }
+    ensures { λ w. ⌜ weightOf w ≡ join (placesOf p) (weightOf x) (weightOf y) ⌝ }
+{
+    if single {
+        return join_first(p, x, y);
+    }
+    weights::joining::join(p, x, y)
+}
+
+// The weight at `at` becomes the better of itself and x joined y.
+fn relax_at(p: Places, single: bool, x: Weight, y: Weight, row: &mut [u32], at: usize)
+    requires { ⌜ (at + weightWords ≤ length (now row)) × AtMost arcSum (weightOf x) × AtMost matrixSum (weightOf y) × (single ≡ true → Lone (placesOf p) (weightOf x) (weightOf y)) ⌝ }
+    ensures { λ _. ⌜ now (row .exit) ≡ take at (now (row .entry)) ++ (words (betterOf (placesOf p) (cell places (now (row .entry)) at) (join (placesOf p) (weightOf x) (weightOf y))) ++ drop weightWords (drop at (now (row .entry)))) ⌝ }
+{
+    let z = join_arc(p, single, x, y);
+    let old = weights::words::weight_at(row, at);
+    if weights::comparing::better(p, z, old) {
+        weights::words::write_at(row, at, z);
+    }
+}
+
+// Each entry j of the row becomes the better of itself and x joined R(k,j).
+fn fold_arc(p: Places, single: bool, x: Weight, r: &[u32], n: usize, k: usize, row: &mut [u32])
+    requires { ⌜ Square n (now r) × (k < n) × (n * weightWords ≤ length (now row)) × AtMost arcSum (weightOf x) ⌝ }
+    requires { ⌜ ((j : ℕ) → j < n → AtMost matrixSum (matrixIn places n (now r) k j)) ⌝ }
+    requires { ⌜ (single ≡ true → (j : ℕ) → j < n → Lone (placesOf p) (weightOf x) (matrixIn places n (now r) k j)) ⌝ }
+    ensures { λ _. ⌜ now (row .exit) ≡ rowWords n (folded (placesOf p) (weightOf x) (matrixIn places n (now (r .entry)) k) (rowIn places (now (row .entry)))) ++ drop (n * weightWords) (now (row .entry)) ⌝ }
+{
+    let from = k * (n * WEIGHT_WORDS);
+    let mut j: usize = 0;
+    while j < n {
+        let y = weights::words::weight_at(r, from + j * WEIGHT_WORDS);
+        relax_at(p, single, x, y, row, j * WEIGHT_WORDS);
+        j += 1;
+    }
+}
+
+// The same; an arc that is no route is left out before R is read.
+pub fn take_arc(p: Places, single: bool, x: Weight, r: &[u32], n: usize, k: usize, row: &mut [u32])
+    requires { ⌜ Square n (now r) × (k < n) × (n * weightWords ≤ length (now row)) × AtMost arcSum (weightOf x) ⌝ }
+    requires { ⌜ ((j : ℕ) → j < n → AtMost matrixSum (matrixIn places n (now r) k j)) ⌝ }
+    requires { ⌜ (single ≡ true → (j : ℕ) → j < n → Lone (placesOf p) (weightOf x) (matrixIn places n (now r) k j)) ⌝ }
+    ensures { λ _. ⌜ now (row .exit) ≡ rowWords n (folded (placesOf p) (weightOf x) (matrixIn places n (now (r .entry)) k) (rowIn places (now (row .entry)))) ++ drop (n * weightWords) (now (row .entry)) ⌝ }
+{
+    match x {
+        Weight::Route {
+            first: _,
+            second: _,
+            third: _,
+            fourth: _,
+        } => fold_arc(p, single, x, r, n, k, row),
+        Weight::NoRoute => {}
+    }
+}

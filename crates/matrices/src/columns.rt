@@ -1,0 +1,101 @@
+// Settle steps: column j set to the best weights, which n - 1 passes over the fresh column make.
+use super::fresh;
+use weights::Places;
+use weights::WEIGHT_WORDS;
+use weights::Weight;
+ghost use mathlib.Core.Path.{_≡_};
+ghost use mathlib.Core.List.{_++_};
+ghost use Prim.Native.Nat.{_+_, _*_, _≤_, _<_};
+ghost use lib.ListN.{length, drop};
+ghost use Rattle.algebra.specs.Best.{best};
+ghost use Rattle.algebra.specs.Step.{settle, step};
+ghost use Rattle.weights.specs.Sizes.{places, weightWords, arcSum, matrixSum};
+ghost use Rattle.weights.specs.Weights.{join, betterOf, language};
+ghost use Rattle.weights.specs.Languages.{placesOf, weightOf, AtMost};
+ghost use Rattle.matrices.specs.Buffers.{rowWords, matrixWords, cell, rowIn, matrixIn, Square};
+ghost use Rattle.matrices.specs.Steps.{Given};
+ghost use Rattle.matrices.specs.Parts.{column, renewed, passed, setColumn, GivenArcs, Held};
+
+// The better of w and of x joined the weight at `at`; an arc that is no route is left out before the column is read.
+fn take_entry(p: Places, w: Weight, x: Weight, col: &[u32], at: usize) -> Weight
+    requires { ⌜ (at + weightWords ≤ length (now col)) × AtMost arcSum (weightOf x) × AtMost 2147483647 (cell places (now col) at) ⌝ }
+    ensures { λ v. ⌜ weightOf v ≡ betterOf (placesOf p) (weightOf w) (join (placesOf p) (weightOf x) (cell places (now (col .entry)) at)) ⌝ }
+{
+    let Weight::Route {
+        first: _,
+        second: _,
+        third: _,
+        fourth: _,
+    } = x
+    else {
+        return w;
+    };
+    let y = weights::words::weight_at(col, at);
+    let z = weights::joining::join(p, x, y);
+    weights::comparing::better_of(p, w, z)
+}
+
+// What a row step puts at row i of the column with target j.
+fn renew(p: Places, n: usize, a: &[u32], i: usize, j: usize, col: &[u32]) -> Weight
+    requires { ⌜ GivenArcs (placesOf p) n (now a) × Held 2147483647 (placesOf p) n (now col) × (i < n) ⌝ }
+    ensures { λ w. ⌜ weightOf w ≡ renewed (placesOf p) n (matrixIn places n (now (a .entry))) j (rowIn places (now (col .entry))) i ⌝ }
+{
+    let from = i * (n * WEIGHT_WORDS);
+    let mut w = fresh::fresh_weight(p, i, j);
+    let mut k: usize = 0;
+    while k < n {
+        let x = weights::words::weight_at(a, from + k * WEIGHT_WORDS);
+        w = take_entry(p, w, x, col, k * WEIGHT_WORDS);
+        k += 1;
+    }
+    w
+}
+
+// One pass over the rows of a column.
+fn pass(p: Places, n: usize, a: &[u32], j: usize, col: &mut [u32])
+    requires { ⌜ GivenArcs (placesOf p) n (now a) × Held matrixSum (placesOf p) n (now col) ⌝ }
+    ensures { λ _. ⌜ now (col .exit) ≡ rowWords n (passed (placesOf p) n (matrixIn places n (now (a .entry))) j n (rowIn places (now (col .entry)))) ++ drop (n * weightWords) (now (col .entry)) ⌝ }
+{
+    let mut i: usize = 0;
+    while i < n {
+        let w = renew(p, n, a, i, j, col);
+        weights::words::write_at(col, i * WEIGHT_WORDS, w);
+        i += 1;
+    }
+}
+
+// Writes the best weights with target j over the first n entries of col.
+pub fn settle_column(p: Places, n: usize, a: &[u32], j: usize, col: &mut [u32])
+    requires { ⌜ GivenArcs (placesOf p) n (now a) × (n * weightWords ≤ length (now col)) ⌝ }
+    ensures { λ _. ⌜ now (col .exit) ≡ rowWords n (column (best (language (placesOf p)) n (matrixIn places n (now (a .entry)))) j) ++ drop (n * weightWords) (now (col .entry)) ⌝ }
+{
+    fresh::fresh_row(p, n, j, col);
+    let mut t: usize = 1;
+    while t < n {
+        pass(p, n, a, j, col);
+        t += 1;
+    }
+}
+
+// Writes column j.
+fn write_column(n: usize, j: usize, col: &[u32], r: &mut [u32])
+    requires { ⌜ Square n (now r) × (j < n) × (n * weightWords ≤ length (now col)) ⌝ }
+    ensures { λ _. ⌜ now (r .exit) ≡ matrixWords n (setColumn j (rowIn places (now (col .entry))) (matrixIn places n (now (r .entry)))) ⌝ }
+{
+    let mut i: usize = 0;
+    while i < n {
+        let w = weights::words::weight_at(col, i * WEIGHT_WORDS);
+        weights::words::write_at(r, i * (n * WEIGHT_WORDS) + j * WEIGHT_WORDS, w);
+        i += 1;
+    }
+}
+
+// Settle step j.
+pub fn settle(p: Places, n: usize, a: &[u32], r: &mut [u32], j: usize)
+    requires { ⌜ Given (placesOf p) n (now a) (now r) × (j < n) ⌝ }
+    ensures { λ _. ⌜ now (r .exit) ≡ matrixWords n (step (language (placesOf p)) n (matrixIn places n (now (a .entry))) (settle j) (matrixIn places n (now (r .entry)))) ⌝ }
+{
+    let mut col = [0u32; 64];
+    settle_column(p, n, a, j, &mut col);
+    write_column(n, j, &col, r);
+}

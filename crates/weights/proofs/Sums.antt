@@ -1,0 +1,78 @@
+-- The sum at a component (dist or gain): it adds up under join at most, and is at most the cap that a reading was given.
+use Prim.Native.Nat.{ℕ, zero, suc, _+_, _≤_}
+use mathlib.Core.Path.{_≡_, refl}
+use mathlib.Core.Bool.{Bool, true, false, _&&_}
+use mathlib.Core.List.{List, [], _∷_}
+use native.Mathlib.Omega.{arith}
+use lib.Dec.{leb}
+use lib.ListN.{length, take}
+use borrow.Author.Tests.{leb-true}
+use Rattle.algebra.proofs.Bound.{Size}
+use Rattle.weights.specs.declared.Component.{Component}
+use Rattle.weights.specs.declared.Component.the-variants.{Dist, Width, Class, Gain}
+use Rattle.weights.specs.Weights.{Weight, none, route, joinValues, unitValues, join, language}
+use Rattle.weights.specs.Words.{inRange, fits, decoded}
+use Rattle.weights.proofs.Ordering.{clash}
+use Rattle.weights.proofs.Readings.{Well, noRoute, values, both}
+
+-- the value of a component that is a sum; 0 for the others
+abbrev pub sumHere : Component → ℕ → ℕ
+sumHere Dist x = x
+sumHere (Width w) x = 0
+sumHere (Class k) x = 0
+sumHere Gain x = x
+
+-- the sum at component c; 0 where there is none
+abbrev pub sumOf : List Component → ℕ → List ℕ → ℕ
+sumOf [] c xs = 0
+sumOf (k ∷ ks) c [] = 0
+sumOf (k ∷ ks) zero (x ∷ xs) = sumHere k x
+sumOf (k ∷ ks) (suc c) (x ∷ xs) = sumOf ks c xs
+
+abbrev pub sumAt : List Component → ℕ → Weight → ℕ
+sumAt cs c none = 0
+sumAt cs c (route xs) = sumOf cs c xs
+
+sum-unit : (cs : List Component) (c : ℕ) → sumOf cs c (unitValues cs) ≡ 0
+sum-unit [] c = refl
+sum-unit (Dist ∷ cs) zero = refl
+sum-unit (Width w ∷ cs) zero = refl
+sum-unit (Class k ∷ cs) zero = refl
+sum-unit (Gain ∷ cs) zero = refl
+sum-unit (k ∷ cs) (suc c) = sum-unit cs c
+
+sum-join : (cs : List Component) (c : ℕ) (xs ys : List ℕ) → sumOf cs c (joinValues cs xs ys) ≤ sumOf cs c xs + sumOf cs c ys
+sum-join [] c xs ys = omega arith
+sum-join (k ∷ cs) c [] ys = omega arith
+sum-join (k ∷ cs) c (x ∷ xs) [] = omega arith
+sum-join (Dist ∷ cs) zero (x ∷ xs) (y ∷ ys) = omega arith
+sum-join (Width w ∷ cs) zero (x ∷ xs) (y ∷ ys) = omega arith
+sum-join (Class k ∷ cs) zero (x ∷ xs) (y ∷ ys) = omega arith
+sum-join (Gain ∷ cs) zero (x ∷ xs) (y ∷ ys) = omega arith
+sum-join (k ∷ cs) (suc c) (x ∷ xs) (y ∷ ys) = sum-join cs c xs ys
+
+sum-joined : (cs : List Component) (c : ℕ) (x y : Weight) → sumAt cs c (join cs x y) ≤ sumAt cs c x + sumAt cs c y
+sum-joined cs c none y = omega arith
+sum-joined cs c (route xs) none = omega arith
+sum-joined cs c (route xs) (route ys) = sum-join cs c xs ys
+
+pub sum-size : (cs : List Component) (c : ℕ) → Size (language cs) (sumAt cs c)
+sum-size cs c = record { of-unit = sum-unit cs c; of-none = refl; of-join = sum-joined cs c }
+
+-- ---- what was read has small sums
+
+in-range-sum : (cap : ℕ) (k : Component) (v : ℕ) → inRange cap k v ≡ true → sumHere k v ≤ cap
+in-range-sum cap Dist v e = leb-true v cap e
+in-range-sum cap (Width w) v e = omega arith
+in-range-sum cap (Class k) v e = omega arith
+in-range-sum cap Gain v e = leb-true v cap e
+
+fits-sum : (cap : ℕ) (cs : List Component) (c : ℕ) (ws : List ℕ) → fits cap cs ws ≡ true → sumOf cs c (take (length cs) ws) ≤ cap
+fits-sum cap [] c ws e = omega arith
+fits-sum cap (k ∷ cs) c [] e = clash false e refl
+fits-sum cap (k ∷ cs) zero (x ∷ ws) e = in-range-sum cap k x (both (inRange cap k x) (fits cap cs ws) e .0)
+fits-sum cap (k ∷ cs) (suc c) (x ∷ ws) e = fits-sum cap cs c ws (both (inRange cap k x) (fits cap cs ws) e .1)
+
+pub well-sum : (cap : ℕ) (cs : List Component) (c : ℕ) (ws : List ℕ) → Well cap cs ws → sumAt cs c (decoded (length cs) ws) ≤ cap
+well-sum cap cs c ws (noRoute e) = rw e (omega arith)
+well-sum cap cs c ws (values e f) = rw e (fits-sum cap cs c ws f)
