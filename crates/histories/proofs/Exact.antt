@@ -1,0 +1,140 @@
+-- Each refusal exactly in its case: a check's refusal where the check gives it and all before it pass; 10 where the law itself
+-- fails over all weights; 11 at the first row step that would store a sum above 983,025.
+use Prim.Native.Nat.{ℕ, zero, suc, _≤_, _<_}
+use mathlib.Core.Path.{_≡_, refl, sym, ap, subst, _∙_}
+use mathlib.Core.Bool.{Bool, true, false, cond}
+use mathlib.Core.List.{List, [], _∷_, _++_, map}
+use mathlib.Core.Logic.{_⊎_, inl, inr, _↔_}
+use native.Mathlib.Omega.{arith}
+use lib.Dec.{ltb}
+use lib.ListN.{length}
+use borrow.Author.Tests.{ltb-true, lt-ltb}
+use Rattle.refusals.specs.declared.Refusal.{Refusal}
+use Rattle.refusals.specs.declared.Refusal.the-variants.{Law, Sum}
+use Rattle.refusals.specs.declared.Check.{Check}
+use Rattle.refusals.specs.declared.Check.the-variants.{Passed, Refused}
+use Rattle.refusals.specs.Told.{told, done}
+use Rattle.refusals.specs.Checks.{unless, firstOf, checkTold, Gives}
+use Rattle.refusals.proofs.OneToOne.{told-one, told-not-done}
+use Rattle.refusals.proofs.First.{passed-not, first-exactly}
+use Rattle.algebra.specs.Step.{Step, row, step}
+use Rattle.weights.specs.declared.Component.{Component}
+use Rattle.weights.specs.declared.Language.{Language}
+use Rattle.weights.specs.Weights.{Sound, language}
+use Rattle.weights.specs.Laws.{LawD, LawU, testD, testU}
+use Rattle.weights.specs.Languages.{componentsOf, countCheck, limitCheck}
+use Rattle.weights.proofs.Decided.{D-exact, U-exact}
+use Rattle.weights.proofs.Ordering.{clash}
+use Rattle.matrices.specs.Steps.{Matrix, solves}
+use Rattle.routes.specs.Checks.{nodesCheck, lengthCheck, lawDCheck, lawUCheck, manyCheck, listCheck}
+use Rattle.routes.specs.Calls.{matrixOf, freshCheck, matricesChecks, stepOf, stepFits, runOf, doneOf, StepsRow, ranRow, stepsRowBy, stepsRow, equationCheck, equationRow, equationRowBy, EquationRow}
+
+-- ---- 10: the law itself fails
+
+unless-refuses : (b : Bool) (r s : Refusal) → (unless b r ≡ Refused s) → (b ≡ false) × (r ≡ s)
+unless-refuses true r s e = absurd (passed-not s e)
+unless-refuses false r s e = (refl, same e)
+  where
+    same : Refused r ≡ Refused s → r ≡ s
+    same q = cc
+
+by-test : {b : Bool} {P : Type 0} → (b ≡ true) ↔ P → (b ≡ false) ↔ (P → ⊥)
+by-test {b} {P} x = (λ e p. clash b (x .1 p) e, λ f. go b refl f)
+  where
+    go : (c : Bool) → b ≡ c → (P → ⊥) → b ≡ false
+    go true e f = absurd (f (x .0 e))
+    go false e f = e
+
+pub law-D-missing : (cs : List Component) → Sound cs → (lawDCheck cs ≡ Refused (Law 1 0)) ↔ (LawD cs → ⊥)
+law-D-missing cs s = (λ e. by-test (D-exact cs s) .0 (unless-refuses (testD cs) (Law 1 0) (Law 1 0) e .0), λ f. ap (λ (b : Bool). unless b (Law 1 0)) (by-test (D-exact cs s) .1 f))
+
+pub law-U-missing : (cs : List Component) → Sound cs → (lawUCheck cs ≡ Refused (Law 2 0)) ↔ (LawU cs → ⊥)
+law-U-missing cs s = (λ e. by-test (U-exact cs s) .0 (unless-refuses (testU cs) (Law 2 0) (Law 2 0) e .0), λ f. ap (λ (b : Bool). unless b (Law 2 0)) (by-test (U-exact cs s) .1 f))
+
+-- ---- a call refuses r exactly when one of its checks gives r and all before it pass
+
+told-check : (c : Check) (r : Refusal) → (checkTold c ≡ told r) ↔ (c ≡ Refused r)
+told-check Passed r = (λ e. absurd (told-not-done r (sym e)), λ e. absurd (passed-not r e))
+told-check (Refused s) r = (λ e. ap Refused (told-one s r e), λ e. ap checkTold e)
+
+pub fresh-refuses : (l : Language) (n : ℕ) (r : List ℕ) (x : Refusal) → (checkTold (freshCheck l n r) ≡ told x)
+    ↔ Gives (nodesCheck n ∷ countCheck l ∷ limitCheck l ∷ lengthCheck 2 n r ∷ lawDCheck (componentsOf l) ∷ lawUCheck (componentsOf l) ∷ []) x
+fresh-refuses l n r x =
+    let checks = nodesCheck n ∷ countCheck l ∷ limitCheck l ∷ lengthCheck 2 n r ∷ lawDCheck (componentsOf l) ∷ lawUCheck (componentsOf l) ∷ [] in
+    (λ e. first-exactly checks x .0 (told-check (freshCheck l n r) x .0 e), λ g. told-check (freshCheck l n r) x .1 (first-exactly checks x .1 g))
+
+pub equation-refuses : (l : Language) (n : ℕ) (a r : List ℕ) (x : Refusal) → (equationRow l n a r .told ≡ told x) ↔ Gives (matricesChecks l n a r []) x
+equation-refuses l n a r x = (
+  λ e. first-exactly (matricesChecks l n a r []) x .0 (told-check (equationCheck l n a r) x .0 (same (equationCheck l n a r) (solves (componentsOf l) n (matrixOf l n a) (matrixOf l n r)) e)),
+  λ g. ap (λ (c : Check). equationRowBy c (solves (componentsOf l) n (matrixOf l n a) (matrixOf l n r)) .told) (first-exactly (matricesChecks l n a r []) x .1 g),
+)
+  where
+    same : (c : Check) (b : Bool) → equationRowBy c b .told ≡ told x → checkTold c ≡ told x
+    same Passed b e = e
+    same (Refused s) b e = e
+
+-- ---- 11: at the first step that does not fit
+
+-- all steps before step k fit, and step k does not
+abbrev pub StopsAt : List Component → ℕ → Matrix → Matrix → ℕ → List Step → Type 0
+StopsAt cs n A R k [] = ⊥
+StopsAt cs n A R zero (s ∷ steps) = stepFits cs n A R s ≡ false
+StopsAt cs n A R (suc k) (s ∷ steps) = (stepFits cs n A R s ≡ true) × StopsAt cs n A (step (language cs) n A s R) k steps
+
+pub stops-exactly : (cs : List Component) (n : ℕ) (A R : Matrix) (k : ℕ) (steps : List Step) → ((doneOf cs n A R steps ≡ k) × (k < length steps)) ↔ StopsAt cs n A R k steps
+unfolding doneOf
+stops-exactly cs n A R k [] = (λ e. absurd (let h : k < 0 = e .1 in omega arith), λ s. absurd s)
+stops-exactly cs n A R zero (s ∷ steps) = (λ e. go (stepFits cs n A R s) refl (e .0), λ f. (rw f, omega arith))
+  where
+    go : (b : Bool) → stepFits cs n A R s ≡ b → cond b (suc (doneOf cs n A (step (language cs) n A s R) steps)) 0 ≡ 0 → stepFits cs n A R s ≡ false
+    go true p q = absurd (let z : suc (doneOf cs n A (step (language cs) n A s R) steps) ≡ 0 = q in omega arith)
+    go false p q = p
+stops-exactly cs n A R (suc k) (s ∷ steps) = (
+  λ e. go (stepFits cs n A R s) refl (e .0) (stops-exactly cs n A (step (language cs) n A s R) k steps .0) (e .1),
+  λ f. let ih = stops-exactly cs n A (step (language cs) n A s R) k steps .1 (f .1) in let h : k < length steps = ih .1 in (rw (f .0) (ap suc (ih .0)), omega arith),
+)
+  where
+    go : (b : Bool) → stepFits cs n A R s ≡ b → cond b (suc (doneOf cs n A (step (language cs) n A s R) steps)) 0 ≡ suc k
+        → ((doneOf cs n A (step (language cs) n A s R) steps ≡ k) × (k < length steps) → StopsAt cs n A (step (language cs) n A s R) k steps) → suc k < length (s ∷ steps)
+        → (stepFits cs n A R s ≡ true) × StopsAt cs n A (step (language cs) n A s R) k steps
+    go true p q ih h = (p, ih (omega arith, omega arith))
+    go false p q ih h = absurd (omega arith)
+
+-- ---- the step call
+
+length-steps : (xs : List ℕ) → length (map stepOf xs) ≡ length xs
+length-steps [] = refl
+length-steps (x ∷ xs) = ap suc (length-steps xs)
+
+module _ (l : Language) (n : ℕ) (a r list : List ℕ) (x : Refusal) where
+  abbrev checks : List Check
+  checks = matricesChecks l n a r (manyCheck list ∷ listCheck n list ∷ [])
+
+  abbrev count : ℕ
+  count = doneOf (componentsOf l) n (matrixOf l n a) (matrixOf l n r) (map stepOf list)
+
+  -- 11 at the first step that does not fit, with every check passed
+  abbrev pub Eleven : Type 0
+  Eleven = (firstOf checks ≡ Passed) × ((k : ℕ) × (x ≡ Sum 0 k) × StopsAt (componentsOf l) n (matrixOf l n a) (matrixOf l n r) k (map stepOf list))
+
+  -- The step call refuses x exactly when one of its checks gives x and all before it pass, or x is 11.
+  pub steps-refuses : (stepsRow l n a r list .told ≡ told x) ↔ (Gives checks x ⊎ Eleven)
+  steps-refuses = (λ e. there (firstOf checks) refl e, back)
+    where
+      ran : firstOf checks ≡ Passed → (b : Bool) → ltb count (length list) ≡ b → cond b (told (Sum 0 count)) done ≡ told x → Eleven
+      ran p true q e = (p, (count, sym (told-one (Sum 0 count) x e), stops-exactly (componentsOf l) n (matrixOf l n a) (matrixOf l n r) count (map stepOf list) .0 (refl, rw (length-steps list) (ltb-true count (length list) q))))
+      ran p false q e = absurd (told-not-done x (sym e))
+
+      there : (c : Check) → firstOf checks ≡ c → stepsRowBy c count (length list) .told ≡ told x → Gives checks x ⊎ Eleven
+      there Passed p e = inr (ran p (ltb count (length list)) refl e)
+      there (Refused s) p e = inl (first-exactly checks x .0 (p ∙ ap Refused (told-one s x e)))
+
+      stopped : Eleven → stepsRow l n a r list .told ≡ told x
+      stopped (p, (k, q, s)) =
+          let h = stops-exactly (componentsOf l) n (matrixOf l n a) (matrixOf l n r) k (map stepOf list) .1 s in
+          let m : k < length list = rw (length-steps list) at (h .1) in
+          ap (λ (c : Check). stepsRowBy c count (length list) .told) p ∙ ap (λ (m : ℕ). ranRow m (length list) .told) (h .0) ∙ rw (lt-ltb k (length list) m) (ap told (sym q))
+
+      back : Gives checks x ⊎ Eleven → stepsRow l n a r list .told ≡ told x
+      back (inl g) = ap (λ (c : Check). stepsRowBy c count (length list) .told) (first-exactly checks x .1 g)
+      back (inr s) = stopped s

@@ -1,0 +1,4 @@
+pub mod Reached
+pub mod Histories
+pub mod Exact
+pub mod Worked

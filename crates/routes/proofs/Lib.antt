@@ -1,0 +1,5 @@
+pub mod Bridge
+pub mod Order
+pub mod Lists
+pub mod Answers
+pub mod Unique

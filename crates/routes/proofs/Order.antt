@@ -1,0 +1,231 @@
+-- The checks of a call, group by group: which refusal is given, and what is known once all have passed.
+use Prim.Native.Nat.{ℕ, zero, suc, _*_, _≤_, _<_}
+use mathlib.Core.Path.{_≡_, refl, sym, ap, ap₂, subst, _∙_}
+use mathlib.Core.Bool.{Bool, true, false, cond, _&&_, and-false}
+use mathlib.Core.List.{List, [], _∷_, _++_}
+use native.Mathlib.Omega.{arith}
+use lib.Dec.{leb, eqb}
+use lib.ListN.{length}
+use borrow.Author.Tests.{leb-true, lt-leb, le-leb, eqb-true, eq-eqb, ne-eqb}
+use Rattle.refusals.specs.declared.Refusal.{Refusal}
+use Rattle.refusals.specs.declared.Refusal.the-variants.{Size, Length, Law}
+use Rattle.refusals.specs.declared.Check.{Check}
+use Rattle.refusals.specs.declared.Check.the-variants.{Passed, Refused}
+use Rattle.refusals.specs.Checks.{unless, orElse, firstOf}
+use Rattle.refusals.proofs.First.{passed-not}
+use Rattle.weights.specs.declared.Component.{Component}
+use Rattle.weights.specs.declared.Language.{Language}
+use Rattle.weights.specs.declared.Places.{Places}
+use Rattle.weights.specs.Sizes.{places, weightWords, arcSum, matrixSum}
+use Rattle.weights.specs.Weights.{Sound}
+use Rattle.weights.specs.Laws.{testD, testU}
+use Rattle.weights.specs.Languages.{componentsOf, countCheck, limitCheck, languageCheck, padded, placesOf, SmallLimits}
+use Rattle.weights.proofs.Padding.{testD-pad, testU-pad, sound-pad, sound-unpad}
+use Rattle.weights.proofs.Checking.{few, check-sound}
+use Rattle.matrices.specs.Buffers.{Square, Formed}
+use Rattle.matrices.specs.Steps.{Given}
+use Rattle.matrices.proofs.Malformed.{check-formed}
+use Rattle.routes.specs.Checks.{nodesCheck, lengthCheck, lawDCheck, lawUCheck, arcsCheck, routesCheck, mostNodes}
+use Rattle.routes.specs.Calls.{freshCheck, matricesChecks}
+use Rattle.routes.specs.Ready.{Passing}
+use Rattle.routes.proofs.Bridge.{check-pad}
+
+-- ---- one check after another
+
+-- a refusal is the answer
+pub stops : {c : Check} {r : Refusal} (d : Check) → c ≡ Refused r → orElse c d ≡ Refused r
+stops d e = rw e
+
+-- a check that passes leaves it to the next
+pub goes-on : {c d e : Check} → c ≡ Passed → d ≡ e → orElse c d ≡ e
+goes-on p q = rw p q
+
+-- the last check
+pub last : {c d : Check} → d ≡ c → orElse c Passed ≡ d
+last {c} e = whole c ∙ sym e
+  where
+    whole : (c : Check) → orElse c Passed ≡ c
+    whole Passed = refl
+    whole (Refused r) = refl
+
+-- two checks are one
+pair : (c d e : Check) → orElse c (orElse d e) ≡ orElse (firstOf (c ∷ d ∷ [])) e
+pair (Refused r) d e = refl
+pair Passed (Refused r) e = refl
+pair Passed Passed e = refl
+
+pub passed-both : (c d : Check) → firstOf (c ∷ d ∷ []) ≡ Passed → (c ≡ Passed) × (d ≡ Passed)
+passed-both Passed Passed e = (refl, refl)
+passed-both Passed (Refused r) e = absurd (passed-not r (sym e))
+passed-both (Refused r) d e = absurd (passed-not r (sym e))
+
+module _ (l : Language) (n : ℕ) where
+  abbrev cs : List Component
+  cs = componentsOf l
+
+  pub fresh-order : (r : List ℕ) → freshCheck l n r ≡ orElse (nodesCheck n) (orElse (languageCheck l) (orElse (lengthCheck 2 n r) (firstOf (lawDCheck cs ∷ lawUCheck cs ∷ []))))
+  fresh-order r = ap (orElse (nodesCheck n)) (pair (countCheck l) (limitCheck l) (orElse (lengthCheck 2 n r) (firstOf (lawDCheck cs ∷ lawUCheck cs ∷ []))))
+
+  pub matrices-order : (a r : List ℕ) (rest : List Check) → firstOf (matricesChecks l n a r rest)
+      ≡ orElse (nodesCheck n) (orElse (languageCheck l) (orElse (firstOf (lengthCheck 1 n a ∷ lengthCheck 2 n r ∷ [])) (orElse (firstOf (lawDCheck cs ∷ lawUCheck cs ∷ [])) (orElse (firstOf (arcsCheck cs n a ∷ routesCheck cs n r ∷ [])) (firstOf rest)))))
+  matrices-order a r rest =
+      ap (orElse (nodesCheck n))
+      (pair (countCheck l) (limitCheck l) _ ∙ ap (orElse (languageCheck l))
+      (pair (lengthCheck 1 n a) (lengthCheck 2 n r) _ ∙ ap (orElse (firstOf (lengthCheck 1 n a ∷ lengthCheck 2 n r ∷ [])))
+      (pair (lawDCheck cs) (lawUCheck cs) _ ∙ ap (orElse (firstOf (lawDCheck cs ∷ lawUCheck cs ∷ [])))
+      (pair (arcsCheck cs n a) (routesCheck cs n r) (firstOf rest)))))
+
+-- a call's checks go on past those of its matrices
+pub matrices-rest : (l : Language) (n : ℕ) (a r : List ℕ) (rest : List Check) → firstOf (matricesChecks l n a r rest) ≡ orElse (firstOf (matricesChecks l n a r [])) (firstOf rest)
+matrices-rest l n a r rest = all (nodesCheck n ∷ countCheck l ∷ limitCheck l ∷ lengthCheck 1 n a ∷ lengthCheck 2 n r ∷ lawDCheck (componentsOf l) ∷ lawUCheck (componentsOf l) ∷ arcsCheck (componentsOf l) n a ∷ routesCheck (componentsOf l) n r ∷ [])
+  where
+    all : (cs : List Check) → firstOf (cs ++ rest) ≡ orElse (firstOf cs) (firstOf rest)
+    all [] = refl
+    all (Passed ∷ cs) = all cs
+    all (Refused r ∷ cs) = refl
+
+-- ---- single checks
+
+pub unless-passes : (b : Bool) (r : Refusal) → unless b r ≡ Passed → b ≡ true
+unless-passes true r e = refl
+unless-passes false r e = absurd (passed-not r (sym e))
+
+pub nodes-low : (n : ℕ) → n < 1 → Refused (Size 1 0) ≡ nodesCheck n
+nodes-low n h = rw (lt-leb 1 n h)
+
+pub nodes-high : (n : ℕ) → mostNodes < n → Refused (Size 1 0) ≡ nodesCheck n
+nodes-high n h = rw (lt-leb n mostNodes h, and-false)
+
+pub nodes-in : (n : ℕ) → 1 ≤ n → n ≤ mostNodes → Passed ≡ nodesCheck n
+nodes-in n h k = rw (le-leb 1 n h, le-leb n mostNodes k)
+
+pub nodes-passed : (n : ℕ) → nodesCheck n ≡ Passed → (1 ≤ n) × (n ≤ 16)
+nodes-passed n e = go (leb 1 n) (leb n 16) refl refl (unless-passes (leb 1 n && leb n 16) (Size 1 0) e)
+  where
+    go : (a b : Bool) → leb 1 n ≡ a → leb n 16 ≡ b → (a && b) ≡ true → (1 ≤ n) × (n ≤ 16)
+    go true true p q h = (leb-true 1 n p, leb-true n 16 q)
+    go true false p q h = absurd (false-true h)
+      where
+        false-true : false ≡ true → ⊥
+        false-true z = let y : _≡_ {A = ℕ} 0 1 = cc in omega arith
+    go false b p q h = absurd (false-true h)
+      where
+        false-true : false ≡ true → ⊥
+        false-true z = let y : _≡_ {A = ℕ} 0 1 = cc in omega arith
+
+pub length-other : (which n : ℕ) (s : List ℕ) → (length s ≡ n * (n * weightWords) → ⊥) → Refused (Length which 0) ≡ lengthCheck which n s
+length-other which n s f = rw (ne-eqb (length s) (n * (n * weightWords)) f)
+
+pub length-same : (which n : ℕ) (s : List ℕ) → length s ≡ n * (n * weightWords) → Passed ≡ lengthCheck which n s
+length-same which n s e = rw (eq-eqb (length s) (n * (n * weightWords)) e)
+
+pub length-passed : (which n : ℕ) (s : List ℕ) → n ≤ 16 → lengthCheck which n s ≡ Passed → Square n s
+length-passed which n s h e = record { few = h; long = eqb-true (length s) (n * (n * weightWords)) (unless-passes (eqb (length s) (n * (n * weightWords))) (Length which 0) e) }
+
+pub laws-passed : (cs : List Component) → firstOf (lawDCheck cs ∷ lawUCheck cs ∷ []) ≡ Passed → (testD cs ≡ true) × (testU cs ≡ true)
+laws-passed cs e = let h = passed-both (lawDCheck cs) (lawUCheck cs) e in (unless-passes (testD cs) (Law 1 0) (h .0), unless-passes (testU cs) (Law 2 0) (h .1))
+
+-- ---- in the places and in the language
+
+module _ (l : Language) (p : Places) (e : placesOf p ≡ padded places (componentsOf l)) where
+  pub laws-same : firstOf (lawDCheck (placesOf p) ∷ lawUCheck (placesOf p) ∷ []) ≡ firstOf (lawDCheck (componentsOf l) ∷ lawUCheck (componentsOf l) ∷ [])
+  laws-same = ap₂ (λ (x y : Bool). firstOf (unless x (Law 1 0) ∷ unless y (Law 2 0) ∷ [])) (ap testD e ∙ testD-pad places (componentsOf l) (few l)) (ap testU e ∙ testU-pad places (componentsOf l) (few l))
+
+  pub arcs-same : (n : ℕ) (a : List ℕ) → Square n a → arcsCheck (placesOf p) n a ≡ arcsCheck (componentsOf l) n a
+  arcs-same n a q = ap (λ (cs : List Component). arcsCheck cs n a) e ∙ check-pad 1 arcSum (componentsOf l) n a (few l) q
+
+  pub entries-same : (n : ℕ) (a r : List ℕ) → Square n a → Square n r → firstOf (arcsCheck (placesOf p) n a ∷ routesCheck (placesOf p) n r ∷ []) ≡ firstOf (arcsCheck (componentsOf l) n a ∷ routesCheck (componentsOf l) n r ∷ [])
+  entries-same n a r qa qr =
+      ap₂ (λ (x y : Check). firstOf (x ∷ y ∷ [])) (arcs-same n a qa)
+      (ap (λ (cs : List Component). routesCheck cs n r) e ∙ check-pad 2 matrixSum (componentsOf l) n r (few l) qr)
+
+  pub passing : (n : ℕ) → nodesCheck n ≡ Passed → languageCheck l ≡ Passed → SmallLimits 65535 (placesOf p) → firstOf (lawDCheck (placesOf p) ∷ lawUCheck (placesOf p) ∷ []) ≡ Passed → Passing l n p
+  passing n en el h eu = record {
+    some = nodes-passed n en .0;
+    few = nodes-passed n en .1;
+    placed = e;
+    limits = h;
+    sound = subst Sound (sym e) (sound-pad places (componentsOf l) (check-sound l el));
+    law-D = laws-passed (placesOf p) eu .0;
+    law-U = laws-passed (placesOf p) eu .1;
+  }
+
+pub given : (l : Language) (n : ℕ) (p : Places) (a r : List ℕ) → Passing l n p → Square n a → Square n r → firstOf (arcsCheck (placesOf p) n a ∷ routesCheck (placesOf p) n r ∷ []) ≡ Passed → Given (placesOf p) n a r
+given l n p a r o qa qr e =
+    let h = passed-both (arcsCheck (placesOf p) n a) (routesCheck (placesOf p) n r) e in
+    record {
+      limits = o .limits;
+      sound = o .sound;
+      law-D = o .law-D;
+      law-U = o .law-U;
+      arcs = check-formed 1 arcSum (placesOf p) n a qa (h .0);
+      routes = check-formed 2 matrixSum (placesOf p) n r qr (h .1);
+    }
+
+-- the language's own limits are sound
+pub passing-sound : (l : Language) (n : ℕ) (p : Places) → Passing l n p → Sound (componentsOf l)
+passing-sound l n p o = sound-unpad places (componentsOf l) (few l) (subst Sound (o .placed) (o .sound))
+
+-- ---- what refuses a call on A and R, and what is known where nothing does
+
+module _ (l : Language) (n : ℕ) (a r : List ℕ) where
+  abbrev All : Check
+  All = firstOf (matricesChecks l n a r [])
+
+  pub by-nodes : {x : Refusal} → nodesCheck n ≡ Refused x → All ≡ Refused x
+  by-nodes e = matrices-order l n a r [] ∙ stops _ e
+
+  module _ (en : nodesCheck n ≡ Passed) where
+    pub by-language : {x : Refusal} → languageCheck l ≡ Refused x → All ≡ Refused x
+    by-language e = matrices-order l n a r [] ∙ goes-on en (stops _ e)
+
+    module _ (p : Places) (el : languageCheck l ≡ Passed) (placed : placesOf p ≡ padded places (componentsOf l)) where
+      pub by-lengths : {x : Refusal} → firstOf (lengthCheck 1 n a ∷ lengthCheck 2 n r ∷ []) ≡ Refused x → All ≡ Refused x
+      by-lengths e = matrices-order l n a r [] ∙ goes-on en (goes-on el (stops _ e))
+
+      module _ (eb : firstOf (lengthCheck 1 n a ∷ lengthCheck 2 n r ∷ []) ≡ Passed) where
+        pub squares : Square n a × Square n r
+        squares =
+            let few = nodes-passed n en .1 in
+            let both = passed-both (lengthCheck 1 n a) (lengthCheck 2 n r) eb in
+            (length-passed 1 n a few (both .0), length-passed 2 n r few (both .1))
+
+        pub by-laws : {x : Refusal} → firstOf (lawDCheck (placesOf p) ∷ lawUCheck (placesOf p) ∷ []) ≡ Refused x → All ≡ Refused x
+        by-laws e = matrices-order l n a r [] ∙ goes-on en (goes-on el (goes-on eb (stops _ (sym (laws-same l p placed) ∙ e))))
+
+        module _ (eu : firstOf (lawDCheck (placesOf p) ∷ lawUCheck (placesOf p) ∷ []) ≡ Passed) where
+          pub by-entries : {x : Refusal} → firstOf (arcsCheck (placesOf p) n a ∷ routesCheck (placesOf p) n r ∷ []) ≡ Refused x → All ≡ Refused x
+          by-entries e = matrices-order l n a r [] ∙ goes-on en (goes-on el (goes-on eb (goes-on (sym (laws-same l p placed) ∙ eu) (stops _ (sym (entries-same l p placed n a r (squares .0) (squares .1)) ∙ e)))))
+
+          pub all-pass : SmallLimits 65535 (placesOf p) → firstOf (arcsCheck (placesOf p) n a ∷ routesCheck (placesOf p) n r ∷ []) ≡ Passed → (All ≡ Passed) × Passing l n p × Given (placesOf p) n a r
+          all-pass small ef =
+              let passes = passing l p placed n en el small eu in (
+                matrices-order l n a r [] ∙ goes-on en (goes-on el (goes-on eb (goes-on (sym (laws-same l p placed) ∙ eu) (goes-on (sym (entries-same l p placed n a r (squares .0) (squares .1)) ∙ ef) refl)))),
+                passes,
+                given l n p a r passes (squares .0) (squares .1) ef,
+              )
+
+-- ---- the same of fresh
+
+module _ (l : Language) (n : ℕ) (r : List ℕ) where
+  pub fresh-by-nodes : {x : Refusal} → nodesCheck n ≡ Refused x → freshCheck l n r ≡ Refused x
+  fresh-by-nodes e = fresh-order l n r ∙ stops _ e
+
+  module _ (en : nodesCheck n ≡ Passed) where
+    pub fresh-by-language : {x : Refusal} → languageCheck l ≡ Refused x → freshCheck l n r ≡ Refused x
+    fresh-by-language e = fresh-order l n r ∙ goes-on en (stops _ e)
+
+    module _ (p : Places) (el : languageCheck l ≡ Passed) (placed : placesOf p ≡ padded places (componentsOf l)) where
+      pub fresh-by-length : {x : Refusal} → lengthCheck 2 n r ≡ Refused x → freshCheck l n r ≡ Refused x
+      fresh-by-length e = fresh-order l n r ∙ goes-on en (goes-on el (stops _ e))
+
+      module _ (eb : lengthCheck 2 n r ≡ Passed) where
+        pub fresh-by-laws : {x : Refusal} → firstOf (lawDCheck (placesOf p) ∷ lawUCheck (placesOf p) ∷ []) ≡ Refused x → freshCheck l n r ≡ Refused x
+        fresh-by-laws e = fresh-order l n r ∙ goes-on en (goes-on el (goes-on eb (sym (laws-same l p placed) ∙ e)))
+
+        pub fresh-pass : SmallLimits 65535 (placesOf p) → firstOf (lawDCheck (placesOf p) ∷ lawUCheck (placesOf p) ∷ []) ≡ Passed → (freshCheck l n r ≡ Passed) × Passing l n p × Square n r
+        fresh-pass small eu = (
+          fresh-order l n r ∙ goes-on en (goes-on el (goes-on eb (sym (laws-same l p placed) ∙ eu))),
+          passing l p placed n en el small eu,
+          length-passed 2 n r (nodes-passed n en .1) eb,
+        )

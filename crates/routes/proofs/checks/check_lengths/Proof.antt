@@ -1,0 +1,34 @@
+use mathlib.Core.Path.{sym, _∙_}
+use Rattle.routes.proofs.Order.{stops, goes-on, last}
+use borrow.Author.Needs.{needs}
+use Rattle.routes.proofs.checks.check_lengths.Statement.{statement}
+use Rattle.routes.proofs.checks.check_lengths.Tie as tie
+
+check-length-requires : tie.Need-check-length-requires
+check-length-requires c κs = search needs
+
+enum-known-x : tie.Need-enum-known-x
+enum-known-x c = search needs
+
+enum-told : tie.Need-enum-told
+enum-told c = search needs
+
+check-length-requires-2 : tie.Need-check-length-requires-2
+check-length-requires-2 c κs = search needs
+
+returns : tie.Need-returns
+returns c = sym (stops _ (sym (c .before .before .before .check-length .ensures) ∙ c .before .x .given .1))
+
+returns-2 : tie.Need-returns-2
+returns-2 c = sym (goes-on (sym (c .before .before .before .check-length .ensures) ∙ c .before .enum-told .given .1) (last (c .check-length2 .ensures)))
+
+pub check-lengths-spec : {M : Type 1} → statement M
+check-lengths-spec =
+    tie.close
+    (tie.spec
+    check-length-requires
+    enum-known-x
+    enum-told
+    check-length-requires-2
+    returns
+    returns-2)

@@ -1,0 +1,66 @@
+-- What the inner functions say on the way to Calls: when a call's checks have passed, and runs on the words of a buffer.
+-- They join the code to Calls; nothing here has to be believed.
+use Prim.Native.Nat.{ℕ, zero, suc, _≤_}
+use mathlib.Core.Path.{_≡_}
+use mathlib.Core.Bool.{Bool, true, cond}
+use mathlib.Core.List.{List, [], _∷_}
+use Rattle.refusals.specs.declared.Check.the-variants.{Passed, Refused}
+use Rattle.refusals.specs.Checks.{firstOf}
+use Rattle.algebra.specs.Step as algebra
+use Rattle.algebra.specs.Step.{step, row, settle}
+use Rattle.weights.specs.declared.Component.{Component}
+use Rattle.weights.specs.declared.Language.{Language}
+use Rattle.weights.specs.declared.Places.{Places}
+use Rattle.weights.specs.Sizes.{places}
+use Rattle.weights.specs.Weights.{Sound, language}
+use Rattle.weights.specs.Laws.{testD, testU}
+use Rattle.weights.specs.Languages.{componentsOf, padded, placesOf, SmallLimits}
+use Rattle.matrices.specs.Buffers.{Square, matrixWords, matrixIn}
+use Rattle.matrices.specs.Steps.{Given}
+use Rattle.routes.specs.declared.Ready.{Ready}
+use Rattle.routes.specs.declared.Ready.the-variants.{Given as Places-given, Refused as Call-refused}
+use Rattle.routes.specs.declared.Step.{Step}
+use Rattle.routes.specs.declared.Step.the-variants.{Row, Settle}
+use Rattle.routes.specs.Checks.{isStep}
+use Rattle.routes.specs.Calls.{freshCheck, matricesChecks, stepFits}
+
+-- the language in its places, lawful, and a number of nodes
+pub record Passing (l : Language) (n : ℕ) (p : Places) : Type 0 where
+  pub some : 1 ≤ n
+  pub few : n ≤ 16
+  pub placed : placesOf p ≡ padded places (componentsOf l)
+  pub limits : SmallLimits 65535 (placesOf p)
+  pub sound : Sound (placesOf p)
+  pub law-D : testD (placesOf p) ≡ true
+  pub law-U : testU (placesOf p) ≡ true
+
+abbrev pub FreshReady : Language → ℕ → List ℕ → Ready → Type 0
+FreshReady l n r (Places-given p) = (freshCheck l n r ≡ Passed) × Passing l n p × Square n r
+FreshReady l n r (Call-refused x) = freshCheck l n r ≡ Refused x
+
+abbrev pub MatricesReady : Language → ℕ → List ℕ → List ℕ → Ready → Type 0
+MatricesReady l n a r (Places-given p) = (firstOf (matricesChecks l n a r []) ≡ Passed) × Passing l n p × Given (placesOf p) n a r
+MatricesReady l n a r (Call-refused x) = firstOf (matricesChecks l n a r []) ≡ Refused x
+
+-- the step that the code's step means
+abbrev pub stepMeant : Step → algebra.Step
+stepMeant (Row node) = row (node .0)
+stepMeant (Settle node) = settle (node .0)
+
+-- every number of the list is a step
+abbrev pub AllSteps : ℕ → List ℕ → Type 0
+AllSteps n [] = Unit {0}
+AllSteps n (x ∷ list) = (isStep n x ≡ true) × AllSteps n list
+
+-- the words that a step leaves
+unfoldable pub stepLeft : List Component → ℕ → List ℕ → List ℕ → algebra.Step → List ℕ
+stepLeft cs n a r s = matrixWords n (cond (stepFits cs n (matrixIn places n a) (matrixIn places n r) s) (step (language cs) n (matrixIn places n a) s (matrixIn places n r)) (matrixIn places n r))
+
+-- the words after the steps, in order, up to the first that is refused, and how many are done
+unfoldable pub runLeft : List Component → ℕ → List ℕ → List ℕ → List algebra.Step → List ℕ
+runLeft cs n a r [] = r
+runLeft cs n a r (s ∷ steps) = cond (stepFits cs n (matrixIn places n a) (matrixIn places n r) s) (runLeft cs n a (stepLeft cs n a r s) steps) (stepLeft cs n a r s)
+
+unfoldable pub runDone : List Component → ℕ → List ℕ → List ℕ → List algebra.Step → ℕ
+runDone cs n a r [] = 0
+runDone cs n a r (s ∷ steps) = cond (stepFits cs n (matrixIn places n a) (matrixIn places n r) s) (suc (runDone cs n a (stepLeft cs n a r s) steps)) 0

@@ -1,0 +1,39 @@
+// The calls that work out routes: fresh, steps, and the test of the routing equation. They take every input.
+pub mod checks;
+pub mod equation;
+pub mod fresh;
+pub mod steps;
+
+use numbers::Node;
+use refusals::Refusal;
+use weights::Places;
+
+pub const MOST_NODES: u32 = 16;
+
+pub const MOST_STEPS: usize = 4096;
+
+pub const FIRST_SETTLE: u32 = 256;
+
+// What a number of a step list means.
+pub enum Step {
+    Row(Node),
+    Settle(Node),
+}
+
+// What the checks of a call find: the language in its places, or a refusal.
+pub enum Ready {
+    Given(Places),
+    Refused(Refusal),
+}
+
+// All steps done, or refused after some.
+pub enum StepsAnswer {
+    Done(u32),
+    Refused { refusal: Refusal, done: u32 },
+}
+
+pub enum EquationAnswer {
+    Yes,
+    No,
+    Refused(Refusal),
+}
