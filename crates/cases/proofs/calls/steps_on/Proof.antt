@@ -1,0 +1,43 @@
+use mathlib.Core.Path.{sym}
+use native.Mathlib.Omega.{arith}
+use borrow.Table.Elements.{length-take-le}
+use borrow.Author.Needs.{needs}
+use Rattle.cases.proofs.calls.steps_on.Statement.{statement}
+use Rattle.cases.proofs.calls.steps_on.Tie as tie
+
+send-too-long-requires : tie.Need-send-too-long-requires
+send-too-long-requires c κs = search needs
+
+returns : tie.Need-returns
+returns c = search needs
+
+slice-aggregate-copy : tie.Need-slice-aggregate-copy
+slice-aggregate-copy c = search needs
+
+copy-requires : tie.Need-copy-requires
+copy-requires c κs = search needs
+
+array-borrow-prefix-r : tie.Need-array-borrow-prefix-r
+array-borrow-prefix-r c = search needs
+
+slice-aggregate-steps : tie.Need-slice-aggregate-steps
+slice-aggregate-steps c = sym (length-take-le _ _ (omega arith))
+
+steps-requires : tie.Need-steps-requires
+steps-requires c κs = search needs
+
+returns-2 : tie.Need-returns-2
+returns-2 c = search needs
+
+pub steps-on-spec : {M : Type 1} → statement M
+steps-on-spec =
+    tie.close
+    (tie.spec
+    send-too-long-requires
+    returns
+    slice-aggregate-copy
+    copy-requires
+    array-borrow-prefix-r
+    slice-aggregate-steps
+    steps-requires
+    returns-2)

@@ -1,0 +1,223 @@
+//! Generated calls, each from a seed of its own: a valid call, and often some damages on it, so
+//! that the order of the refusals is tried too.
+
+use reference::generator::{
+    any_language, damage_entry, damaged_language, damaged_step_list, lawful_language, Dice,
+};
+use reference::weights::{ONES, WEIGHT_WORDS};
+use reference::Language;
+
+use crate::calls::{language_words, Call, Kind, LanguageWords};
+use crate::networks::{nodes, routing, step_list};
+
+/// What the program has room for in a buffer that a call writes.
+const ROOM: usize = 1_280;
+const BAD_COUNTS: [u32; 6] = [0, 5, 6, 255, 65_536, u32::MAX];
+const BAD_NODES: [u32; 8] = [0, 17, 18, 255, 256, 65_537, 1 << 30, u32::MAX];
+
+/// The call of a seed.
+pub fn call(seed: u64) -> Call {
+    let mut dice = Dice::new(seed);
+    match dice.below(20) {
+        0..=2 => laws_call(&mut dice),
+        3..=5 => fresh_call(&mut dice),
+        6..=13 => steps_call(&mut dice),
+        _ => equation_call(&mut dice),
+    }
+}
+
+fn laws_call(dice: &mut Dice) -> Call {
+    let language = match dice.below(10) {
+        0..=4 => any_language(dice),
+        5..=7 => lawful_language(dice),
+        _ => damaged_language(dice),
+    };
+    let mut words = language_words(&language);
+    if dice.percent(15) {
+        spoil_component(dice, &mut words);
+    }
+    Call::new(Kind::Laws, words, dice.roll() as u32, vec![])
+}
+
+fn fresh_call(dice: &mut Dice) -> Call {
+    let language = lawful_language(dice);
+    let n = nodes(dice);
+    let r = (0..matrix_words(n)).map(|_| dice.roll() as u32).collect();
+    damaged(dice, Kind::Fresh, &language, n, vec![r])
+}
+
+fn steps_call(dice: &mut Dice) -> Call {
+    let language = lawful_language(dice);
+    let (n, case) = routing(dice, &language);
+    let list = step_list(dice, n);
+    let buffers = vec![case.arcs, case.matrix, list];
+    damaged(dice, Kind::Steps, &language, n, buffers)
+}
+
+fn equation_call(dice: &mut Dice) -> Call {
+    let language = lawful_language(dice);
+    let (n, mut case) = routing(dice, &language);
+    if dice.percent(20) {
+        nudge_entry(dice, &mut case.matrix);
+    }
+    damaged(
+        dice,
+        Kind::Equation,
+        &language,
+        n,
+        vec![case.arcs, case.matrix],
+    )
+}
+
+fn matrix_words(n: u32) -> usize {
+    let nodes = n as usize;
+    nodes * nodes * WEIGHT_WORDS
+}
+
+/// The call with none, one or several damages.
+fn damaged(
+    dice: &mut Dice,
+    kind: Kind,
+    language: &Language,
+    n: u32,
+    buffers: Vec<Vec<u32>>,
+) -> Call {
+    let mut call = Call::new(kind, language_words(language), n, buffers);
+    let damages = dice.pick(&[0, 0, 0, 0, 0, 1, 1, 1, 2, 3]);
+    for _ in 0..damages {
+        damage(dice, &mut call);
+    }
+    fill_unused(dice, &mut call);
+    call
+}
+
+/// Numbers that the call does not take hold anything.
+fn fill_unused(dice: &mut Dice, call: &mut Call) {
+    for number in [&mut call.m, &mut call.mode, &mut call.i, &mut call.j] {
+        *number = dice.pick(&[0, 1, u32::MAX]);
+    }
+}
+
+fn damage(dice: &mut Dice, call: &mut Call) {
+    match dice.below(11) {
+        0 => call.n = dice.pick(&BAD_NODES),
+        1 => seventeen_nodes(call),
+        2 => call.language[0] = dice.pick(&BAD_COUNTS),
+        3 => width_without_value(dice, &mut call.language),
+        4 => spoil_component(dice, &mut call.language),
+        5 => call.language = language_words(&any_language(dice)),
+        6 => change_length(dice, call),
+        7 | 8 => spoil_entry(dice, call),
+        9 => spoil_list(dice, call),
+        _ => call.n = nodes(dice),
+    }
+}
+
+/// One node too many, with buffers of the length that it would have.
+fn seventeen_nodes(call: &mut Call) {
+    call.n = 17;
+    for index in matrices(call) {
+        call.buffers[index].resize(matrix_words(17), ONES);
+    }
+}
+
+fn width_without_value(dice: &mut Dice, language: &mut LanguageWords) {
+    let place = dice.index(4);
+    language[1 + 2 * place] = 2;
+    language[2 + 2 * place] = 0;
+}
+
+/// A kind that is unknown, or a limit above 16 bits.
+fn spoil_component(dice: &mut Dice, language: &mut LanguageWords) {
+    let place = dice.index(4);
+    if dice.percent(50) {
+        language[1 + 2 * place] = dice.pick(&[0, 5, 6, 255, 257, 65_537, u32::MAX]);
+    } else {
+        language[2 + 2 * place] = dice.pick(&[65_536, 65_537, 1 << 31, u32::MAX]);
+    }
+}
+
+/// The buffers that are matrices; a list is the third.
+fn matrices(call: &Call) -> std::ops::Range<usize> {
+    0..call.buffers.len().min(2)
+}
+
+fn change_length(dice: &mut Dice, call: &mut Call) {
+    let index = dice.index(matrices(call).len());
+    let buffer = &mut call.buffers[index];
+    let length = buffer.len();
+    let shorter = dice.pick(&[1, 1, 2, 4, 64]);
+    let longer = dice.pick(&[1, 1, 2, 4, 64]);
+    let lengths = [
+        length.saturating_sub(shorter),
+        length + longer,
+        0,
+        2 * length,
+    ];
+    let new = dice.pick(&[
+        lengths[0], lengths[0], lengths[1], lengths[1], lengths[2], lengths[3],
+    ]);
+    buffer.resize(new.min(ROOM), ONES);
+}
+
+/// Spoils the words of an entry; they may happen to be sound.
+fn spoil_entry(dice: &mut Dice, call: &mut Call) {
+    let index = dice.index(matrices(call).len());
+    let buffer = &mut call.buffers[index];
+    let patterns = [
+        [ONES, 0, 0, 0],
+        [0, ONES, ONES, ONES],
+        [ONES, ONES, ONES, 0],
+        [0, 0, 0, 1],
+        [983_026, 0, 0, 0],
+        [65_536, 0, 0, 0],
+    ];
+    if dice.percent(60) || buffer.len() < WEIGHT_WORDS {
+        damage_entry(dice, buffer, WEIGHT_WORDS);
+        return;
+    }
+    let at = dice.index(buffer.len() / WEIGHT_WORDS) * WEIGHT_WORDS;
+    buffer[at..at + WEIGHT_WORDS].copy_from_slice(&dice.pick(&patterns));
+}
+
+/// A word one more or one less, or an entry that is another's: nearly what it was.
+fn nudge_entry(dice: &mut Dice, words: &mut [u32]) {
+    let entries = words.len() / WEIGHT_WORDS;
+    let to = dice.index(entries) * WEIGHT_WORDS;
+    if dice.percent(50) {
+        let from = dice.index(entries) * WEIGHT_WORDS;
+        words.copy_within(from..from + WEIGHT_WORDS, to);
+    } else {
+        let word = &mut words[to + dice.index(WEIGHT_WORDS)];
+        *word = dice.pick(&[word.wrapping_add(1), word.wrapping_sub(1)]);
+    }
+}
+
+fn spoil_list(dice: &mut Dice, call: &mut Call) {
+    if call.kind == Kind::Steps {
+        call.buffers[2] = damaged_step_list(dice, call.n.clamp(1, 16));
+    }
+}
+
+#[cfg(test)]
+mod tests {
+    use super::*;
+
+    #[test]
+    fn the_same_seed_makes_the_same_call() {
+        for seed in 0..200 {
+            assert_eq!(call(seed), call(seed));
+        }
+        assert_ne!(call(1), call(2));
+    }
+
+    #[test]
+    fn calls_fit_the_program() {
+        for seed in 0..3_000 {
+            let call = call(seed);
+            assert!(call.request().len() < 16_384);
+            assert_eq!(call.buffers.len(), call.kind.buffer_names().len());
+            assert!(matrices(&call).all(|index| call.buffers[index].len() <= ROOM));
+        }
+    }
+}
