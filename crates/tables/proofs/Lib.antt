@@ -1,0 +1,13 @@
+pub mod Comparisons
+pub mod SemiModules
+pub mod Worked
+pub mod EntrySums
+pub mod Padded
+pub mod EntryReadings
+pub mod Choosing
+pub mod Rooms
+pub mod Summing
+pub mod TableBlocks
+pub mod MalformedEntries
+pub mod Forwarded
+pub mod PaddedTables

@@ -1,0 +1,73 @@
+-- Refusal 6 on a table: it passes exactly where every entry is well-formed, and else it is at the first entry that is not.
+use Prim.Native.Nat.{ℕ, _+_, _*_, _/_, _%_, _<_}
+use mathlib.Core.Path.{_≡_, sym, ap, _∙_, subst}
+use mathlib.Core.Bool.{Bool, true, false}
+use mathlib.Core.List.{List}
+use mathlib.Core.Logic.{_↔_}
+use native.Mathlib.Nat.{mul-le-mul-right, mul-assoc, div-add-mod'}
+use native.Mathlib.Omega.{arith}
+use Rattle.refusals.specs.declared.Refusal.{Refusal}
+use Rattle.refusals.specs.declared.Refusal.the-variants.{Value}
+use Rattle.refusals.specs.declared.Check.the-variants.{Passed, Refused}
+use Rattle.weights.specs.declared.Component.{Component}
+use Rattle.weights.specs.Sizes.{entryWords}
+use Rattle.matrices.proofs.Malformed.{passes-all, all-passes, First, refuses-first}
+use Rattle.tables.specs.declared.Mode.{Mode}
+use Rattle.tables.specs.Tables.{tablePlace, wellFormedEntry, tableCheck, Sized, FormedTable}
+use Rattle.tables.proofs.Rooms.{Counted, counted}
+
+-- entry (i, d) is entry i * m + d of the buffer
+place-is : (m i d : ℕ) → (0 + (i * m + d)) * entryWords ≡ tablePlace m i d
+place-is m i d = omega (arith, mul-assoc i m entryWords)
+
+entry-below : (n m i d : ℕ) → i < n → d < m → i * m + d < n * m
+entry-below n m i d hi hd = omega (arith, mul-le-mul-right m hi)
+
+zero-more : (e : ℕ) → (0 + e) * entryWords ≡ e * entryWords
+zero-more e = omega arith
+
+module _ (which : ℕ) (mode : Mode) (cap : ℕ) (cs : List Component) (n m : ℕ) (s : List ℕ) (sized : Sized n m s) where
+  abbrev test : ℕ → Bool
+  test = wellFormedEntry mode cap cs s
+
+  -- what passes is well-formed
+  pub check-formed : tableCheck which mode cap cs n m s ≡ Passed → FormedTable mode cap cs n m s
+  check-formed e = record {
+    sized = sized;
+    reads = λ i d hi hd. subst (λ (k : ℕ). test k ≡ true) (place-is m i d) (passes-all test entryWords which (n * m) 0 e (i * m + d) (entry-below n m i d hi hd));
+  }
+
+  -- .. and back
+  pub formed-check : FormedTable mode cap cs n m s → tableCheck which mode cap cs n m s ≡ Passed
+  formed-check f = all-passes test entryWords which (n * m) 0
+      (λ e h. let g : Counted n m e = counted n m e h in subst (λ (k : ℕ). test k ≡ true) (g .same ∙ sym (zero-more e)) (f .reads (e / m) (e % m) (g .node) (g .destination)))
+
+  pub check-exactly : (tableCheck which mode cap cs n m s ≡ Passed) ↔ FormedTable mode cap cs n m s
+  check-exactly = (check-formed, formed-check)
+
+  -- the refusal is refusal 6 at entry (i, d), which is malformed, and every entry before it, by rows, is well-formed
+  pub record AtFirst (r : Refusal) : Type 0 where
+    pub node : ℕ
+    pub destination : ℕ
+    pub node-below : node < n
+    pub destination-below : destination < m
+    pub fails : wellFormedEntry mode cap cs s (tablePlace m node destination) ≡ false
+    pub before : (i d : ℕ) → i < n → d < m → i * m + d < node * m + destination → wellFormedEntry mode cap cs s (tablePlace m i d) ≡ true
+    pub told : r ≡ Value which (tablePlace m node destination)
+
+  pub check-refuses : (r : Refusal) → tableCheck which mode cap cs n m s ≡ Refused r → AtFirst r
+  check-refuses r e = at-first (refuses-first test entryWords which (n * m) 0 r e)
+    where
+      at-first : First test entryWords which 0 (n * m) r → AtFirst r
+      at-first f =
+          let g : Counted n m (f .entries) = counted n m (f .entries) (f .within) in
+          let q : (0 + f .entries) * entryWords ≡ tablePlace m (f .entries / m) (f .entries % m) = zero-more (f .entries) ∙ sym (g .same) in
+          record {
+            node = f .entries / m;
+            destination = f .entries % m;
+            node-below = g .node;
+            destination-below = g .destination;
+            fails = subst (λ (k : ℕ). test k ≡ false) q (f .fails);
+            before = λ i d hi hd l. subst (λ (k : ℕ). test k ≡ true) (place-is m i d) (f .before (i * m + d) (omega (arith, div-add-mod' (f .entries) m)));
+            told = f .told ∙ ap (Value which) q;
+          }

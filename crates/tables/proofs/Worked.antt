@@ -1,0 +1,122 @@
+-- Worked tables: P6, the printed case, and a language without law C in which hot breaks the forwarding equation.
+use Prim.Native.Nat.{ℕ, zero, suc}
+use mathlib.Core.Path.{_≡_, refl, sym, _∙_}
+use mathlib.Core.List.{List, [], _∷_}
+use native.Mathlib.Omega.{arith}
+use Rattle.algebra.specs.Order.{pick, bestOf}
+use Rattle.algebra.specs.Path.{Matrix, ValidMatrix}
+use Rattle.algebra.specs.Best.{bestAmong, best}
+use Rattle.algebra.specs.Step.{Solves}
+use Rattle.algebra.specs.Modes.{ValidTable, forwarded, onward, Forwards}
+use Rattle.algebra.proofs.Reach.{best-solves}
+use Rattle.weights.specs.declared.Component.{Component}
+use Rattle.weights.specs.declared.Component.the-variants.{Dist, Width}
+use Rattle.weights.specs.Weights.{Weight, none, route, language}
+use Rattle.weights.specs.Laws.{LawD, LawU, BreaksC}
+use Rattle.weights.proofs.Decided.{D-holds, U-holds, C-broken}
+use Rattle.weights.proofs.Languages.{lawful}
+use Rattle.tables.specs.declared.Mode.{Mode}
+use Rattle.tables.specs.declared.Mode.the-variants.{Hot, Cold}
+use Rattle.tables.specs.Entries.{Entry, empty, mapped, modeOf}
+
+-- ---- the printed case: arcs 0 to 1 of 2, 0 to 2 of 9, 1 to 2 of 3; destination 0 at node 1 with t 7 and at node 2 with t 4
+
+abbrev distance : List Component
+distance = Dist ∷ []
+
+abbrev printedArcs : Matrix (language distance)
+printedArcs zero zero = none
+printedArcs zero (suc zero) = route (2 ∷ [])
+printedArcs zero (suc (suc j)) = route (9 ∷ [])
+printedArcs (suc zero) zero = none
+printedArcs (suc zero) (suc zero) = none
+printedArcs (suc zero) (suc (suc j)) = route (3 ∷ [])
+printedArcs (suc (suc i)) j = none
+
+abbrev printedTable : ℕ → ℕ → Entry
+printedTable zero d = empty
+printedTable (suc zero) d = mapped (0 ∷ []) 7
+printedTable (suc (suc i)) d = mapped (0 ∷ []) 4
+
+abbrev printedSum : Mode → ℕ → Entry
+printedSum mode i = forwarded (language distance) (modeOf mode distance) 3 (best (language distance) 3 printedArcs) printedTable i 0
+
+-- the printed table, in cold mode
+pub printed-cold : (printedSum Cold 0 ≡ mapped (5 ∷ []) 4) × (printedSum Cold 1 ≡ mapped (3 ∷ []) 4) × (printedSum Cold 2 ≡ mapped (0 ∷ []) 4)
+unfolding forwarded bestOf pick best bestAmong
+printed-cold = (refl, refl, refl)
+
+-- P6: the same file in hot mode
+pub P6 : printedSum Hot 0 ≡ mapped (2 ∷ []) 7
+unfolding forwarded bestOf pick best bestAmong
+P6 = refl
+
+-- ---- hot without law C: width 10, arcs 0 to 1 of 5 and 1 to 2 of 8; destination 0 at node 1 with t 9 and at node 2 with t 1
+
+abbrev wide : List Component
+wide = Width 10 ∷ []
+
+abbrev line : Matrix (language wide)
+line zero zero = none
+line zero (suc zero) = route (5 ∷ [])
+line zero (suc (suc j)) = none
+line (suc zero) zero = none
+line (suc zero) (suc zero) = none
+line (suc zero) (suc (suc j)) = route (8 ∷ [])
+line (suc (suc i)) j = none
+
+abbrev ends : ℕ → ℕ → Entry
+ends zero d = empty
+ends (suc zero) d = mapped (10 ∷ []) 9
+ends (suc (suc i)) d = mapped (10 ∷ []) 1
+
+abbrev routes : Matrix (language wide)
+routes = best (language wide) 3 line
+
+line-valid : ValidMatrix (language wide) 3 line
+line-valid zero zero h l = tt
+line-valid zero (suc zero) h l = ((omega arith, omega arith), tt)
+line-valid zero (suc (suc j)) h l = tt
+line-valid (suc zero) zero h l = tt
+line-valid (suc zero) (suc zero) h l = tt
+line-valid (suc zero) (suc (suc j)) h l = ((omega arith, omega arith), tt)
+line-valid (suc (suc i)) j h l = tt
+
+ends-valid : ValidTable (language wide) (modeOf Hot wide) 3 1 ends
+ends-valid zero d h l = tt
+ends-valid (suc zero) d h l = (((omega arith, omega arith), tt), omega arith)
+ends-valid (suc (suc i)) d h l = (((omega arith, omega arith), tt), omega arith)
+
+-- both ways from 0 have width 5, and the smaller t wins
+hot-sum : forwarded (language wide) (modeOf Hot wide) 3 routes ends 0 0 ≡ mapped (5 ∷ []) 1
+unfolding forwarded bestOf pick best bestAmong
+hot-sum = refl
+
+-- but node 1 keeps the wider way with t 9, so the equation would have t 9 at 0
+hot-onward : onward (language wide) (modeOf Hot wide) 3 line ends (forwarded (language wide) (modeOf Hot wide) 3 routes ends) 0 0 ≡ mapped (5 ∷ []) 9
+unfolding onward forwarded bestOf pick best bestAmong
+hot-onward = refl
+
+-- Hot needs law C: D and U hold and C is broken, R is the best matrix and satisfies the routing equation, and F does not satisfy F = (A applied to F) best M.
+pub record HotBreaks (cs : List Component) (n m : ℕ) (A R : Matrix (language cs)) (M : ℕ → ℕ → Entry) : Type 0 where
+  pub law-D : LawD cs
+  pub law-U : LawU cs
+  pub no-law-C : (s : Weight) × (x : Weight) × (y : Weight) × BreaksC cs s x y
+  pub arcs-valid : ValidMatrix (language cs) n A
+  pub table-valid : ValidTable (language cs) (modeOf Hot cs) n m M
+  pub solves : Solves (language cs) n A R
+  pub broken : ¬ Forwards (language cs) (modeOf Hot cs) n m A M (forwarded (language cs) (modeOf Hot cs) n R M)
+
+pub hot-needs-C : HotBreaks wide 3 1 line routes ends
+hot-needs-C = record {
+  law-D = D-holds wide refl;
+  law-U = U-holds wide refl;
+  no-law-C = (route (1 ∷ []), route (10 ∷ []), route (1 ∷ []), C-broken wide (omega arith, tt) refl);
+  arcs-valid = line-valid;
+  table-valid = ends-valid;
+  solves = best-solves (record { 𝓐 = language wide; 𝓛 = lawful wide (omega arith, tt) refl refl; n = 3; A = line; arcs-valid = line-valid });
+  broken = λ f. differ (sym hot-sum ∙ f 0 0 (omega arith) (omega arith) ∙ hot-onward);
+}
+  where
+    differ : ¬ (mapped (5 ∷ []) 1 ≡ mapped (5 ∷ []) 9)
+    differ e = let z : _≡_ {A = ℕ} 1 9 = cc in omega arith
