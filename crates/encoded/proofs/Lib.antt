@@ -1,0 +1,11 @@
+pub mod Here
+pub mod Entries
+pub mod Whole
+pub mod TakenLanguage
+pub mod TakenLists
+pub mod Taken
+pub mod Cells
+pub mod WellFormed
+pub mod AreBytes
+pub mod Listed
+pub mod Worked

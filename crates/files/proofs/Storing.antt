@@ -1,0 +1,209 @@
+-- Laws of the second pass: records that pass lie in the table, and storing them one after the other makes the table.
+use mathlib.Core.Path.{_≡_, refl, sym, ap, _∙_, subst}
+use mathlib.Core.List.{List, [], _∷_, _++_}
+use mathlib.Core.Bool.{Bool, true, false, cond}
+use Prim.Native.Nat.{ℕ, zero, suc, _+_, _*_, _-_, _≤_, _<_}
+use native.Mathlib.Nat.{zero-mul, suc-mul, add-zero}
+use native.Mathlib.Numerals.{add-one}
+use native.Mathlib.Omega.{arith}
+use borrow.Author.Tests.{ltb-true}
+use lib.Dec.{ltb, leb}
+use lib.ListN.{length, drop, set, replicate, length-replicate, length-append}
+use lib.Seq.{sets, length-sets, drop-at}
+use Rattle.refusals.specs.declared.Refusal.{Refusal}
+use Rattle.refusals.specs.declared.Refusal.the-variants.{Bytes, NoSuch}
+use Rattle.refusals.specs.declared.Check.{Check}
+use Rattle.refusals.specs.declared.Check.the-variants.{Passed, Refused}
+use Rattle.refusals.specs.Checks.{unless}
+use Rattle.weights.specs.Sizes.{weightWords, ones}
+use Rattle.weights.specs.Weights.{Weight, none, route}
+use Rattle.weights.specs.Words.{filled, words}
+use Rattle.files.specs.declared.Head.{Head}
+use Rattle.files.specs.declared.HeadRead.{HeadRead}
+use Rattle.files.specs.declared.HeadRead.the-variants.{Sound, Refused as Faulty}
+use Rattle.files.specs.declared.Listing.{Listing}
+use Rattle.files.specs.declared.Listing.the-variants.{Arcs, Attachments}
+use Rattle.files.specs.declared.Ends.{Ends}
+use Rattle.files.specs.declared.Ends.the-variants.{Arc, Attachment}
+use Rattle.files.specs.Bytes.{twoAt}
+use Rattle.files.specs.File.{endsAt, endsCheck, lengthOf, recordCheck, recordsCheck, listCheck, listEnd, bodyCheck, countRight, settled, withBody, headRead, fileRead}
+use Rattle.files.specs.Contents.{grid, wide, columns, sizeOf, recordWords, recordWeight, outsideAt, wordsOf, unlisted, rowOf, columnOf, isAt, listedWords, tableWords}
+use Rattle.files.specs.Parts.{InRange, placeOf, Listed}
+use Rattle.files.proofs.Passing.{both-pass, unless-passes}
+use Rattle.files.proofs.Values.{sets-last}
+use Rattle.files.proofs.Tables.{block-room, grid-put, grid-same}
+
+-- ---- one record
+
+pub ends-pass : (h : Head) (at : ℕ) (e : Ends) → endsCheck h at e ≡ Passed → InRange h e
+unfolding endsCheck
+ends-pass h at (Arc from to) f =
+    let g = both-pass (unless (ltb (from .0) (h .n)) (NoSuch 0 at)) _ f in
+    (ltb-true _ _ (unless-passes _ (NoSuch 0 at) (g .0)), ltb-true _ _ (unless-passes _ (NoSuch 0 (at + 1)) (g .1)))
+ends-pass h at (Attachment node to) f =
+    let g = both-pass (unless (ltb (node .0) (h .n)) (NoSuch 0 at)) _ f in
+    (ltb-true _ _ (unless-passes _ (NoSuch 0 at) (g .0)), ltb-true _ _ (unless-passes _ (NoSuch 0 (at + 1)) (g .1)))
+
+pub record-ends : (s : List ℕ) (h : Head) (list : Listing) (at low : ℕ) → recordCheck s h list at low ≡ Passed → InRange h (endsAt s list at)
+unfolding recordCheck
+record-ends s h list at low f =
+    let g = both-pass (unless (leb (at + lengthOf h list) (length s)) (Bytes 0 at)) _ f in
+    ends-pass h at (endsAt s list at) (both-pass (endsCheck h at (endsAt s list at)) _ (g .1) .0)
+
+-- records that pass have their ends in the table
+pub records-listed : (s : List ℕ) (h : Head) (list : Listing) (count at low : ℕ) → recordsCheck s h list at low count ≡ Passed → Listed s h list at count
+unfolding recordsCheck
+records-listed s h list zero at low f e l = absurd (omega arith)
+records-listed s h list (suc count) at low f zero l =
+    rw (zero-mul, add-zero) (record-ends s h list at low (both-pass (recordCheck s h list at low) _ f .0))
+records-listed s h list (suc count) at low f (suc e) l =
+    let q : at + suc e * lengthOf h list ≡ at + lengthOf h list + e * lengthOf h list = omega (arith, suc-mul e (lengthOf h list)) in
+    rw q (records-listed s h list count (at + lengthOf h list) (twoAt s at + 1) (both-pass (recordCheck s h list at low) _ f .1) e (omega arith))
+
+pub list-listed : (s : List ℕ) (h : Head) (list : Listing) (at : ℕ) → listCheck s h list at ≡ Passed → Listed s h list (at + 2) (twoAt s at)
+unfolding listCheck
+list-listed s h list at f = records-listed s h list (twoAt s at) (at + 2) 0 (both-pass (unless (leb (at + 2) (length s)) (Bytes 0 at)) _ f .1)
+
+pub body-listed : (s : List ℕ) (h : Head) (at : ℕ) → bodyCheck s h at ≡ Passed
+    → Listed s h Arcs (at + 2) (twoAt s at) × Listed s h Attachments (listEnd s h Arcs at + 2) (twoAt s (listEnd s h Arcs at))
+unfolding bodyCheck
+body-listed s h at f =
+    let g = both-pass (listCheck s h Arcs at) _ f in
+    (list-listed s h Arcs at (g .0), list-listed s h Attachments (listEnd s h Arcs at) (both-pass (listCheck s h Attachments (listEnd s h Arcs at)) _ (g .1) .0))
+
+never-sound : {X : Type 0} {r : Refusal} {next : ℕ} {h : Head} → Faulty r ≡ Sound next h → X
+never-sound e = let z : _≡_ {A = ℕ} 0 1 = cc in absurd (omega arith)
+
+-- the body of a file that passes passes
+pub checked-body : (s : List ℕ) (next : ℕ) (h : Head) → fileRead s ≡ Sound next h → bodyCheck s h next ≡ Passed
+unfolding fileRead
+checked-body s next h e = go (countRight s) (headRead s) e
+  where
+    body : (at : ℕ) (k : Head) (c : Check) → bodyCheck s k at ≡ c → settled at k c ≡ Sound next h → bodyCheck s h next ≡ Passed
+    body at k Passed f e =
+        let i : at ≡ next = cc in
+        let j : k ≡ h = cc in
+        subst (λ (x : Head). bodyCheck s x next ≡ Passed) j (subst (λ (x : ℕ). bodyCheck s k x ≡ Passed) i f)
+    body at k (Refused r) f e = never-sound e
+
+    go : (b : Bool) (x : HeadRead) → cond b (withBody s x) (Faulty (Bytes 0 0)) ≡ Sound next h → bodyCheck s h next ≡ Passed
+    go false x e = never-sound e
+    go true (Faulty r) e = never-sound e
+    go true (Sound at k) e = body at k (bodyCheck s k at) refl e
+
+-- ---- a record in the table
+
+length-filled : (n : ℕ) (xs : List ℕ) → length (filled n xs) ≡ n
+length-filled zero xs = refl
+length-filled (suc n) [] = ap suc (length-filled n [])
+length-filled (suc n) (x ∷ xs) = ap suc (length-filled n xs)
+
+pub length-words : (w : Weight) → length (words w) ≡ weightWords
+unfolding words
+length-words none = refl
+length-words (route xs) = length-filled weightWords xs
+
+-- a word stored after those of a weight
+pub put-last : (w : Weight) (l : List ℕ) (n t : ℕ) → set (sets l n (words w)) (n + weightWords) t ≡ sets l n (words w ++ (t ∷ []))
+put-last w l n t = ap (λ (z : ℕ). set (sets l n (words w)) (n + z) t) (sym (length-words w)) ∙ sets-last (words w) l n t
+
+pub words-wide : (list : Listing) (ws : List ℕ) (t : ℕ) → length ws ≡ weightWords → length (wordsOf list ws t) ≡ wide list
+words-wide Arcs ws t e = e
+words-wide Attachments ws t e = length-append ws (t ∷ []) ∙ omega (arith, e)
+
+record-wide : (s : List ℕ) (h : Head) (list : Listing) (at : ℕ) → length (recordWords s h list at) ≡ wide list
+record-wide s h list at = words-wide list (words (recordWeight s h at)) (outsideAt s h at) (length-words (recordWeight s h at))
+
+pub unlisted-ones : (list : Listing) → unlisted list ≡ replicate (wide list) ones
+unfolding words
+unlisted-ones Arcs = refl
+unlisted-ones Attachments = refl
+
+place-grid : (s : List ℕ) (h : Head) (list : Listing) (at : ℕ)
+    → placeOf h (endsAt s list at) ≡ rowOf (endsAt s list at) * (columns h list * wide list) + columnOf (endsAt s list at) * wide list
+place-grid s h Arcs at = refl
+place-grid s h Attachments at = refl
+
+inside : (s : List ℕ) (h : Head) (list : Listing) (at : ℕ) → InRange h (endsAt s list at)
+    → (rowOf (endsAt s list at) < h .n) × (columnOf (endsAt s list at) < columns h list)
+inside s h Arcs at r = r
+inside s h Attachments at r = r
+
+pub room : (s : List ℕ) (h : Head) (list : Listing) (at : ℕ) → InRange h (endsAt s list at)
+    → placeOf h (endsAt s list at) + wide list ≤ sizeOf h list
+unfolding sizeOf
+room s h list at r =
+    let i = inside s h list at r in
+    omega (
+      arith,
+      place-grid s h list at,
+      block-room (columns h list * wide list) (rowOf (endsAt s list at)) (h .n) (i .0),
+      block-room (wide list) (columnOf (endsAt s list at)) (columns h list) (i .1),
+    )
+
+pub listed-wide : (s : List ℕ) (h : Head) (list : Listing) (first count i j : ℕ) → length (listedWords s h list first count i j) ≡ wide list
+unfolding listedWords
+listed-wide s h list first zero i j = ap length (unlisted-ones list) ∙ length-replicate (wide list) ones
+listed-wide s h list first (suc count) i j =
+    go (isAt (endsAt s list (first + count * lengthOf h list)) i j) (listed-wide s h list first count i j)
+  where
+    go : (b : Bool) → length (listedWords s h list first count i j) ≡ wide list
+        → length (cond b (recordWords s h list (first + count * lengthOf h list)) (listedWords s h list first count i j)) ≡ wide list
+    go true e = record-wide s h list (first + count * lengthOf h list)
+    go false e = e
+
+-- ---- the table after some records
+
+pub record Stored (s : List ℕ) (h : Head) (list : Listing) (first count : ℕ) (r₀ r : List ℕ) : Type 0 where
+  pub holds : r ≡ tableWords s h list first count ++ drop (sizeOf h list) r₀
+  pub long : length r ≡ length r₀
+
+pub table-none : (s : List ℕ) (h : Head) (list : Listing) (first : ℕ) → replicate (sizeOf h list) ones ≡ tableWords s h list first 0
+unfolding sizeOf tableWords listedWords
+table-none s h list first =
+    sym (grid-same (wide list) ones (h .n) (columns h list))
+    ∙ ap (λ (ws : List ℕ). grid (h .n) (columns h list) (λ _ _. ws)) (sym (unlisted-ones list))
+
+pub table-more : (s : List ℕ) (h : Head) (list : Listing) (first count : ℕ) (rest : List ℕ)
+    → InRange h (endsAt s list (first + count * lengthOf h list))
+    → sets (tableWords s h list first count ++ rest) (placeOf h (endsAt s list (first + count * lengthOf h list))) (recordWords s h list (first + count * lengthOf h list))
+    ≡ tableWords s h list first (suc count) ++ rest
+unfolding tableWords listedWords
+table-more s h list first count rest r =
+    let at : ℕ = first + count * lengthOf h list in
+    let i = inside s h list at r in
+    ap (λ (z : ℕ). sets (grid (h .n) (columns h list) (listedWords s h list first count) ++ rest) z (recordWords s h list at)) (place-grid s h list at)
+    ∙ grid-put (wide list) (listedWords s h list first count) (listed-wide s h list first count) (h .n) (columns h list)
+    (rowOf (endsAt s list at)) (columnOf (endsAt s list at)) (recordWords s h list at) rest (record-wide s h list at) (i .0) (i .1)
+
+-- one more record stored
+pub stored-more : (s : List ℕ) (h : Head) (list : Listing) (first count : ℕ) (r₀ r r′ : List ℕ) (at : ℕ)
+    → Stored s h list first count r₀ r → at ≡ first + count * lengthOf h list → InRange h (endsAt s list at)
+    → r′ ≡ sets r (placeOf h (endsAt s list at)) (recordWords s h list at)
+    → Stored s h list first (count + 1) r₀ r′
+stored-more s h list first count r₀ r r′ at st e i q =
+    let i′ : InRange h (endsAt s list (first + count * lengthOf h list)) = rw e at i in
+    record {
+      holds =
+          q
+          ∙ ap (λ (z : ℕ). sets r (placeOf h (endsAt s list z)) (recordWords s h list z)) e
+          ∙ ap (λ (l : List ℕ). sets l (placeOf h (endsAt s list (first + count * lengthOf h list))) (recordWords s h list (first + count * lengthOf h list))) (st .holds)
+          ∙ table-more s h list first count (drop (sizeOf h list) r₀) i′
+          ∙ ap (λ (z : ℕ). tableWords s h list first z ++ drop (sizeOf h list) r₀) (sym (add-one count));
+      long = ap length q ∙ length-sets r _ (recordWords s h list at) ∙ st .long;
+    }
+
+-- over a cleared buffer nothing is stored yet; what lies behind the table stays
+module _ (s : List ℕ) (h : Head) (list : Listing) (first : ℕ) (r₀ rest : List ℕ) (clean : r₀ ≡ replicate (sizeOf h list) ones ++ rest) where
+  behind : drop (sizeOf h list) r₀ ≡ rest
+  behind = ap (drop (sizeOf h list)) clean ∙ drop-at (replicate (sizeOf h list) ones) rest (sizeOf h list) (length-replicate (sizeOf h list) ones)
+
+  pub stored-none : Stored s h list first 0 r₀ r₀
+  stored-none = record {
+    holds = clean ∙ ap (λ (l : List ℕ). l ++ rest) (table-none s h list first) ∙ ap (λ (l : List ℕ). tableWords s h list first 0 ++ l) (sym behind);
+    long = refl;
+  }
+
+  pub stored-all : (e count : ℕ) (r : List ℕ) → Stored s h list first e r₀ r → e ≡ count → r ≡ tableWords s h list first count ++ rest
+  stored-all e count r st q =
+      st .holds ∙ ap (λ (l : List ℕ). tableWords s h list first e ++ l) behind ∙ ap (λ (z : ℕ). tableWords s h list first z ++ rest) q
