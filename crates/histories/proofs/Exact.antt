@@ -16,7 +16,8 @@ use Rattle.refusals.specs.declared.Check.the-variants.{Passed, Refused}
 use Rattle.refusals.specs.Told.{told, done}
 use Rattle.refusals.specs.Checks.{unless, firstOf, checkTold, Gives}
 use Rattle.refusals.proofs.OneToOne.{told-one, told-not-done}
-use Rattle.refusals.proofs.First.{passed-not, first-exactly}
+use Rattle.refusals.proofs.First.{first-exactly}
+use Rattle.refusals.proofs.Exactly.{told-check, unless-refuses}
 use Rattle.algebra.specs.Step.{Step, row, step}
 use Rattle.weights.specs.declared.Component.{Component}
 use Rattle.weights.specs.declared.Language.{Language}
@@ -27,16 +28,12 @@ use Rattle.weights.proofs.Decided.{D-exact, U-exact}
 use Rattle.weights.proofs.Ordering.{clash}
 use Rattle.matrices.specs.Steps.{Matrix, solves}
 use Rattle.routes.specs.Checks.{nodesCheck, lengthCheck, lawDCheck, lawUCheck, manyCheck, listCheck}
+use Rattle.histories.specs.Exact.{StepOver, StopsAt}
+use Rattle.histories.proofs.Reached.{length-steps}
+use Rattle.histories.proofs.Over.{step-over, step-fits}
 use Rattle.routes.specs.Calls.{matrixOf, freshCheck, matricesChecks, stepOf, stepFits, runOf, doneOf, StepsRow, ranRow, stepsRowBy, stepsRow, equationCheck, equationRow, equationRowBy, EquationRow}
 
 -- ---- 10: the law itself fails
-
-unless-refuses : (b : Bool) (r s : Refusal) → (unless b r ≡ Refused s) → (b ≡ false) × (r ≡ s)
-unless-refuses true r s e = absurd (passed-not s e)
-unless-refuses false r s e = (refl, same e)
-  where
-    same : Refused r ≡ Refused s → r ≡ s
-    same q = cc
 
 by-test : {b : Bool} {P : Type 0} → (b ≡ true) ↔ P → (b ≡ false) ↔ (P → ⊥)
 by-test {b} {P} x = (λ e p. clash b (x .1 p) e, λ f. go b refl f)
@@ -45,6 +42,7 @@ by-test {b} {P} x = (λ e p. clash b (x .1 p) e, λ f. go b refl f)
     go true e f = absurd (f (x .0 e))
     go false e f = e
 
+-- law D (U) is refused exactly where it fails over all weights
 pub law-D-missing : (cs : List Component) → Sound cs → (lawDCheck cs ≡ Refused (Law 1 0)) ↔ (LawD cs → ⊥)
 law-D-missing cs s = (λ e. by-test (D-exact cs s) .0 (unless-refuses (testD cs) (Law 1 0) (Law 1 0) e .0), λ f. ap (λ (b : Bool). unless b (Law 1 0)) (by-test (D-exact cs s) .1 f))
 
@@ -52,10 +50,6 @@ pub law-U-missing : (cs : List Component) → Sound cs → (lawUCheck cs ≡ Ref
 law-U-missing cs s = (λ e. by-test (U-exact cs s) .0 (unless-refuses (testU cs) (Law 2 0) (Law 2 0) e .0), λ f. ap (λ (b : Bool). unless b (Law 2 0)) (by-test (U-exact cs s) .1 f))
 
 -- ---- a call refuses r exactly when one of its checks gives r and all before it pass
-
-told-check : (c : Check) (r : Refusal) → (checkTold c ≡ told r) ↔ (c ≡ Refused r)
-told-check Passed r = (λ e. absurd (told-not-done r (sym e)), λ e. absurd (passed-not r e))
-told-check (Refused s) r = (λ e. ap Refused (told-one s r e), λ e. ap checkTold e)
 
 pub fresh-refuses : (l : Language) (n : ℕ) (r : List ℕ) (x : Refusal) → (checkTold (freshCheck l n r) ≡ told x)
     ↔ Gives (nodesCheck n ∷ countCheck l ∷ limitCheck l ∷ lengthCheck 2 n r ∷ lawDCheck (componentsOf l) ∷ lawUCheck (componentsOf l) ∷ []) x
@@ -75,36 +69,26 @@ equation-refuses l n a r x = (
 
 -- ---- 11: at the first step that does not fit
 
--- all steps before step k fit, and step k does not
-abbrev pub StopsAt : List Component → ℕ → Matrix → Matrix → ℕ → List Step → Type 0
-StopsAt cs n A R k [] = ⊥
-StopsAt cs n A R zero (s ∷ steps) = stepFits cs n A R s ≡ false
-StopsAt cs n A R (suc k) (s ∷ steps) = (stepFits cs n A R s ≡ true) × StopsAt cs n A (step (language cs) n A s R) k steps
-
 pub stops-exactly : (cs : List Component) (n : ℕ) (A R : Matrix) (k : ℕ) (steps : List Step) → ((doneOf cs n A R steps ≡ k) × (k < length steps)) ↔ StopsAt cs n A R k steps
 unfolding doneOf
 stops-exactly cs n A R k [] = (λ e. absurd (let h : k < 0 = e .1 in omega arith), λ s. absurd s)
-stops-exactly cs n A R zero (s ∷ steps) = (λ e. go (stepFits cs n A R s) refl (e .0), λ f. (rw f, omega arith))
+stops-exactly cs n A R zero (s ∷ steps) = (λ e. step-over cs n A R s .0 (go (stepFits cs n A R s) refl (e .0)), λ f. (rw (step-over cs n A R s .1 f), omega arith))
   where
     go : (b : Bool) → stepFits cs n A R s ≡ b → cond b (suc (doneOf cs n A (step (language cs) n A s R) steps)) 0 ≡ 0 → stepFits cs n A R s ≡ false
     go true p q = absurd (let z : suc (doneOf cs n A (step (language cs) n A s R) steps) ≡ 0 = q in omega arith)
     go false p q = p
 stops-exactly cs n A R (suc k) (s ∷ steps) = (
   λ e. go (stepFits cs n A R s) refl (e .0) (stops-exactly cs n A (step (language cs) n A s R) k steps .0) (e .1),
-  λ f. let ih = stops-exactly cs n A (step (language cs) n A s R) k steps .1 (f .1) in let h : k < length steps = ih .1 in (rw (f .0) (ap suc (ih .0)), omega arith),
+  λ f. let ih = stops-exactly cs n A (step (language cs) n A s R) k steps .1 (f .1) in let h : k < length steps = ih .1 in (rw (step-fits cs n A R s .1 (f .0)) (ap suc (ih .0)), omega arith),
 )
   where
     go : (b : Bool) → stepFits cs n A R s ≡ b → cond b (suc (doneOf cs n A (step (language cs) n A s R) steps)) 0 ≡ suc k
         → ((doneOf cs n A (step (language cs) n A s R) steps ≡ k) × (k < length steps) → StopsAt cs n A (step (language cs) n A s R) k steps) → suc k < length (s ∷ steps)
-        → (stepFits cs n A R s ≡ true) × StopsAt cs n A (step (language cs) n A s R) k steps
-    go true p q ih h = (p, ih (omega arith, omega arith))
+        → (StepOver cs n A R s → ⊥) × StopsAt cs n A (step (language cs) n A s R) k steps
+    go true p q ih h = (step-fits cs n A R s .0 p, ih (omega arith, omega arith))
     go false p q ih h = absurd (omega arith)
 
 -- ---- the step call
-
-length-steps : (xs : List ℕ) → length (map stepOf xs) ≡ length xs
-length-steps [] = refl
-length-steps (x ∷ xs) = ap suc (length-steps xs)
 
 module _ (l : Language) (n : ℕ) (a r list : List ℕ) (x : Refusal) where
   abbrev checks : List Check

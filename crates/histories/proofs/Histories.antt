@@ -39,7 +39,7 @@ use Rattle.routes.specs.Ready.{AllSteps}
 use Rattle.histories.specs.History.{addedBy, afterCalls, soFar, Begun, held, ran, ColumnBest, HistoryDemand3}
 use Rattle.routes.proofs.Order.{goes-on, matrices-rest, nodes-passed, length-same, length-passed, unless-passes}
 use Rattle.routes.proofs.Lists.{all-in, list-passed, passed-list, all-front, all-back}
-use Rattle.histories.proofs.Reached.{network, reached-formed, reached-reads, runs-on}
+use Rattle.histories.proofs.Reached.{length-steps, network, reached-formed, reached-reads, runs-on}
 use Rattle.refusals.specs.declared.Refusal.the-variants.{Law}
 
 -- ---- lists
@@ -47,10 +47,6 @@ use Rattle.refusals.specs.declared.Refusal.the-variants.{Law}
 map-append : (xs ys : List ℕ) → map stepOf (xs ++ ys) ≡ map stepOf xs ++ map stepOf ys
 map-append [] ys = refl
 map-append (x ∷ xs) ys = ap (stepOf x ∷_) (map-append xs ys)
-
-length-steps : (xs : List ℕ) → length (map stepOf xs) ≡ length xs
-length-steps [] = refl
-length-steps (x ∷ xs) = ap suc (length-steps xs)
 
 settle-number : (j : ℕ) → stepOf (firstSettle + j) ≡ settle j
 settle-number j = let e : firstSettle + j - firstSettle ≡ j = omega arith in rw (le-ltb (firstSettle + j) firstSettle (omega arith)) (ap settle e)

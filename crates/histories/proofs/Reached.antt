@@ -2,7 +2,7 @@
 use Prim.Native.Nat.{ℕ, zero, suc, _+_, _*_, _≤_, _<_}
 use mathlib.Core.Path.{_≡_, refl, sym, ap, ap₂, subst, _∙_}
 use mathlib.Core.Bool.{Bool, true, false, cond, _&&_}
-use mathlib.Core.List.{List, [], _∷_, _++_, append-assoc, append-nil}
+use mathlib.Core.List.{List, [], _∷_, _++_, map, append-assoc, append-nil}
 use native.Mathlib.Omega.{arith}
 use lib.Dec.{eqb, leb}
 use lib.ListN.{length}
@@ -28,8 +28,13 @@ use Rattle.matrices.specs.Buffers.{matrixWords, cell, wordsAt, entryPlace, matr
 use Rattle.matrices.specs.Steps.{Matrix, sumFits, sumsFit, weightFits, every, rowFits}
 use Rattle.matrices.proofs.Entries.{matrix-four, matrix-cong, length-matrix}
 use Rattle.matrices.proofs.Every.{every-cong, every-all}
-use Rattle.routes.specs.Calls.{stepFits, runOf, doneOf}
+use Rattle.routes.specs.Calls.{stepOf, stepFits, runOf, doneOf}
 use Rattle.routes.proofs.Bridge.{StepIn, StepsIn, entry-valid}
+
+-- a list has as many steps as numbers
+pub length-steps : (xs : List ℕ) → length (map stepOf xs) ≡ length xs
+length-steps [] = refl
+length-steps (x ∷ xs) = ap suc (length-steps xs)
 
 -- ---- small sums fit
 

@@ -1,20 +1,21 @@
 -- How large values are, and what is read back: entries of a well-formed buffer are weights of the language, their values are
 -- small enough to be joined, and what a row step works out stands in words.
-use mathlib.Core.Path.{_≡_, refl, ap₂}
+use mathlib.Core.Path.{_≡_, refl, ap, ap₂, subst, _∙_}
 use mathlib.Core.List.{List, [], _∷_}
 use mathlib.Core.Bool.{Bool, true, false, cond, _&&_, false≢true}
 use Prim.Native.Nat.{ℕ, zero, suc, _+_, _≤_, _<_}
 use native.Mathlib.Omega.{arith}
 use borrow.Author.Tests.{leb-true, le-leb, ne-eqb}
 use lib.Dec.{eqb, leb}
-use lib.ListN.{take, length}
+use lib.ListN.{take, drop, getD, length}
+use lib.Seq.{drop-cons}
 use Rattle.algebra.specs.Algebra.{order}
 use Rattle.algebra.specs.Order.{pick, bestOf}
 use Rattle.algebra.specs.Step.{fresh}
 use Rattle.weights.specs.declared.Component.{Component}
 use Rattle.weights.specs.declared.Component.the-variants.{Dist, Width, Class, Gain}
 use Rattle.weights.specs.declared.Places.{Places}
-use Rattle.weights.specs.Sizes.{places, ones, arcSum, matrixSum}
+use Rattle.weights.specs.Sizes.{places, weightWords, ones, arcSum, matrixSum}
 use Rattle.weights.specs.Weights.{Weight, none, route, Sound, Valid, ValidValue, ValidValues, join, joinValues, joinValue, better, betterOf, unit, unitValues, unitValue, language}
 use Rattle.weights.specs.Languages.{placesOf, AtMost, AllAtMost, SmallLimit, SmallLimits}
 use Rattle.weights.specs.Words.{words, allAre, inRange, fits, good, malformed, reading, decoded}
@@ -78,6 +79,20 @@ pub formed-most : (cap : ℕ) (p : Places) (n : ℕ) (s : List ℕ) → arcSum �
     → (i j : ℕ) → i < n → j < n → AtMost cap (matrixIn places n s i j)
 unfolding cell
 formed-most cap p n s h l f i j hi hj = read-most cap (placesOf p) (wordsAt s (entryPlace n i j)) (f .reads i j hi hj) arcSum h l
+
+-- a weight with small values that begins with the word of no route is no route
+ones-first : (x : ℕ) (ws : List ℕ) → AtMost arcSum (decoded places (x ∷ ws)) → x ≡ ones → decoded places (x ∷ ws) ≡ none
+ones-first x ws h e = go (allAre ones (x ∷ ws)) h
+  where
+    go : (t : Bool) → AtMost arcSum (cond t none (route (take places (x ∷ ws)))) → cond t none (route (take places (x ∷ ws))) ≡ none
+    go true q = refl
+    go false q = absurd (let z : x ≤ arcSum = q .0 in omega arith)
+
+pub ones-none : (s : List ℕ) (p : ℕ) → p < length s → AtMost arcSum (cell places s p) → getD s p 0 ≡ ones → cell places s p ≡ none
+unfolding cell
+ones-none s p h q e =
+    let d : drop p s ≡ getD s p 0 ∷ drop (suc p) s = drop-cons s p 0 h in
+    ap (λ (l : List ℕ). decoded places (take weightWords l)) d ∙ ones-first (getD s p 0) (take 3 (drop (suc p) s)) (subst (λ (l : List ℕ). AtMost arcSum (decoded places (take weightWords l))) d q) e
 
 -- ---- values at most so much
 

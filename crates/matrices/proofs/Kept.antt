@@ -22,8 +22,7 @@ use Rattle.matrices.proofs.Entries.{length-matrix, words-cell, cell-bac
 use Rattle.matrices.proofs.Every.{every-at}
 use Rattle.matrices.proofs.Bounds.{Within, within-weaken, within-fresh, within-back, good-words}
 use Rattle.matrices.proofs.Rounds.{routed-within, routed-back}
-use Rattle.matrices.proofs.Sums.{most-fits, best-within}
-use Rattle.matrices.proofs.Passes.{arcs-of}
+use Rattle.matrices.proofs.Sums.{most-fits, arcs-of, best-within}
 
 -- an entry's words are well-formed and stand for it
 pub record Stands (p : Places) (w : Weight) : Type 0 where

@@ -6,6 +6,4 @@ pub mod Malformed
 pub mod Rounds
 pub mod Alone
 pub mod Sums
-pub mod Passes
-pub mod Written
 pub mod Kept

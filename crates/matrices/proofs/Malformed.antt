@@ -17,7 +17,7 @@ use Rattle.weights.specs.declared.Read.the-variants.{Good, Malformed}
 use Rattle.weights.specs.declared.Weight as declared
 use Rattle.weights.specs.Sizes.{weightWords}
 use Rattle.weights.specs.Words.{reading, readOf}
-use Rattle.matrices.specs.Buffers.{entryPlace, wellFormed, firstMalformed, matrixCheck, Square, Formed}
+use Rattle.matrices.specs.Buffers.{entryPlace, wellFormed, firstMalformed, matrixCheck, Square, Formed, AtFirst}
 use Rattle.weights.specs.Words.{isGood}
 
 -- ---- one entry further
@@ -105,6 +105,29 @@ module _ (test : ℕ → Bool) (size which : ℕ) where
             told = let w : Value which (e * size) ≡ r = cc in sym w ∙ ap (λ (k : ℕ). Value which (k * size)) (sym z);
           }
 
+  pub first-refuses : (c e : ℕ) (r : Refusal) → First e c r → firstMalformed test size which e c ≡ Refused r
+  unfolding firstMalformed
+  first-refuses zero e r f = absurd (omega (arith, f .within))
+  first-refuses (suc c) e r f = go (f .entries) (f .within) (f .fails) (f .before) (f .told) (first-refuses c (suc e) r)
+    where
+      go : (k : ℕ) → k < suc c → test ((e + k) * size) ≡ false → ((m : ℕ) → m < k → test ((e + m) * size) ≡ true) → r ≡ Value which ((e + k) * size)
+          → (First (suc e) c r → firstMalformed test size which (suc e) c ≡ Refused r) → cond (test (e * size)) (firstMalformed test size which (suc e) c) (Refused (Value which (e * size))) ≡ Refused r
+      go zero w x b q ih =
+          let z : e + zero ≡ e = omega arith in
+          let here : test (e * size) ≡ false = subst (λ (k : ℕ). test (k * size) ≡ false) z x in
+          rw here (ap Refused (sym (q ∙ ap (λ (k : ℕ). Value which (k * size)) z)))
+      go (suc k) w x b q ih =
+          let z : e + zero ≡ e = omega arith in
+          let here : test (e * size) ≡ true = subst (λ (k : ℕ). test (k * size) ≡ true) z (b zero (omega arith)) in
+          let y : e + suc k ≡ suc e + k = omega arith in
+          rw here (ih (record {
+            entries = k;
+            within = omega arith;
+            fails = subst (λ (k : ℕ). test (k * size) ≡ false) y x;
+            before = λ m l. let v : e + suc m ≡ suc e + m = omega arith in subst (λ (k : ℕ). test (k * size) ≡ true) v (b (suc m) (omega arith));
+            told = q ∙ ap (λ (k : ℕ). Value which (k * size)) y;
+          }))
+
 -- ---- a matrix
 
 -- entry (i, j) is entry i * n + j of the buffer
@@ -172,20 +195,24 @@ module _ (which cap : ℕ) (cs : List Component) (n : ℕ) (s : List ℕ) (squar
   pub check-exactly : (matrixCheck which cap cs n s ≡ Passed) ↔ Formed cap cs n s
   check-exactly = (check-formed, formed-check)
 
-  -- the refusal is refusal 6 at entry (i, j), which is malformed, and every entry before it, by rows, is well-formed
-  pub record AtFirst (r : Refusal) : Type 0 where
-    pub row : ℕ
-    pub column : ℕ
-    pub row-below : row < n
-    pub column-below : column < n
-    pub fails : wellFormed cap cs s (entryPlace n row column) ≡ false
-    pub before : (i j : ℕ) → i < n → j < n → i * n + j < row * n + column → wellFormed cap cs s (entryPlace n i j) ≡ true
-    pub told : r ≡ Value which (entryPlace n row column)
-
-  pub check-refuses : (r : Refusal) → matrixCheck which cap cs n s ≡ Refused r → AtFirst r
-  check-refuses r e = at-first (refuses-first (wellFormed cap cs s) weightWords which (n * n) 0 r e)
+  -- it refuses exactly at the first malformed entry
+  pub check-refuses : (r : Refusal) → (matrixCheck which cap cs n s ≡ Refused r) ↔ AtFirst which cap cs n s r
+  check-refuses r = (λ e. at-first (refuses-first (wellFormed cap cs s) weightWords which (n * n) 0 r e), λ f. first-refuses (wellFormed cap cs s) weightWords which (n * n) 0 r (first-at f))
     where
-      at-first : First (wellFormed cap cs s) weightWords which 0 (n * n) r → AtFirst r
+      first-at : AtFirst which cap cs n s r → First (wellFormed cap cs s) weightWords which 0 (n * n) r
+      first-at f =
+          let same : (0 + (f .row * n + f .column)) * weightWords ≡ entryPlace n (f .row) (f .column) = let z : 0 + (f .row * n + f .column) ≡ f .row * n + f .column = omega arith in ap (λ (k : ℕ). k * weightWords) z ∙ place-is n (f .row) (f .column) in
+          record {
+            entries = f .row * n + f .column;
+            within = entry-below n (f .row) (f .column) (f .row-below) (f .column-below);
+            fails = subst (λ (k : ℕ). wellFormed cap cs s k ≡ false) (sym same) (f .fails);
+            before = λ m l. let below : f .row * n + f .column < n * n = entry-below n (f .row) (f .column) (f .row-below) (f .column-below) in
+                let g : Found m = found m (omega arith) in
+                subst (λ (k : ℕ). wellFormed cap cs s k ≡ true) (sym (g .same)) (f .before (g .row) (g .column) (g .row-below) (g .column-below) (omega (arith, g .counted)));
+            told = f .told ∙ ap (Value which) (sym same);
+          }
+
+      at-first : First (wellFormed cap cs s) weightWords which 0 (n * n) r → AtFirst which cap cs n s r
       at-first f =
           let g : Found (f .entries) = found (f .entries) (f .within) in
           record {

@@ -86,23 +86,23 @@ module _ (p : Places) (n : ℕ) (a r : List ℕ) (g : Given (placesOf p) n a r) 
   pub routed-back : (i j : ℕ) → i < n → j < n → (k : ℕ) → k ≤ n → decoded places (words (upTo p n a r k i j)) ≡ upTo p n a r k i j
   routed-back i j hi hj k hk = within-back p tableSum _ (omega arith) (routed-within i j hi hj k hk)
 
-  pub taken-more : (i k : ℕ) → i < n → k < n → (s₀ s s′ : List ℕ) (x : Weight) → Taken p n a r i s₀ k s → x ≡ matrixIn places n a i k → n * weightWords ≤ length s
-      → s′ ≡ rowWords n (folded (placesOf p) x (matrixIn places n r k) (rowIn places s)) ++ drop (n * weightWords) s → Taken p n a r i s₀ (k + 1) s′
-  taken-more i k hi hk s₀ s s′ x t e len q = record {
+  pub taken-more : (i k : ℕ) → i < n → k < n → (s₀ s s′ : List ℕ) → Taken p n a r i s₀ k s → n * weightWords ≤ length s
+      → s′ ≡ rowWords n (folded (placesOf p) (matrixIn places n a i k) (matrixIn places n r k) (rowIn places s)) ++ drop (n * weightWords) s → Taken p n a r i s₀ (k + 1) s′
+  taken-more i k hi hk s₀ s s′ t len q = record {
     holds = q ∙ ap₂ (λ (x y : List ℕ). x ++ y) (row-cong n _ _ one)
         (ap (drop (n * weightWords)) (t .holds) ∙ drop-at (rowWords n (upTo p n a r k i)) (drop (n * weightWords) s₀) (n * weightWords) (length-row n _));
     long = ap length q ∙ length-append (rowWords n new) (drop (n * weightWords) s) ∙ omega (arith, length-row n new, length-drop (n * weightWords) s, t .long);
   }
     where
       new : ℕ → Weight
-      new = folded (placesOf p) x (matrixIn places n r k) (rowIn places s)
+      new = folded (placesOf p) (matrixIn places n a i k) (matrixIn places n r k) (rowIn places s)
 
       was : (j : ℕ) → j < n → rowIn places s j ≡ upTo p n a r k i j
       was j hj = ap (λ (l : List ℕ). rowIn places l j) (t .holds) ∙ row-reads n (upTo p n a r k i) (drop (n * weightWords) s₀) j hj (routed-back i j hi hj k (omega arith))
 
       one : (j : ℕ) → j < n → new j ≡ upTo p n a r (k + 1) i j
       one j hj =
-          ap₂ (λ (u v : Weight). betterOf (placesOf p) u (join (placesOf p) v (matrixIn places n r k j))) (was j hj) e
+          ap (λ (u : Weight). betterOf (placesOf p) u (join (placesOf p) (matrixIn places n a i k) (matrixIn places n r k j))) (was j hj)
           ∙ sym (routed-more (placesOf p) k (matrixIn places n a) (matrixIn places n r) i j)
 
   -- ---- the row that a row step makes, in s

@@ -19,8 +19,7 @@ use Rattle.weights.specs.Weights.{Weight, none, route, Valid, ValidValue, Valid
 use Rattle.weights.specs.Languages.{placesOf, AtMost, AllAtMost, SmallLimit, SmallLimits}
 use Rattle.weights.proofs.Languages.{lawful}
 use Rattle.matrices.specs.Buffers.{matrixIn}
-use Rattle.matrices.specs.Steps.{sumFits, sumsFit, weightFits}
-use Rattle.matrices.specs.Parts.{GivenArcs}
+use Rattle.matrices.specs.Steps.{sumFits, sumsFit, weightFits, GivenArcs, Given}
 use Rattle.matrices.proofs.Bounds.{Within, formed-valid, formed-most}
 
 -- ---- the largest sum of a weight
@@ -124,6 +123,10 @@ pub most-fits : (cs : List Component) (w : Weight) → AtMost matrixSum w → we
 most-fits cs w h = largest-fits cs w (most-largest matrixSum cs w h)
 
 -- ---- the network
+
+-- what a settle step is given, without its routes
+pub arcs-of : (p : Places) (n : ℕ) (a r : List ℕ) → Given (placesOf p) n a r → GivenArcs (placesOf p) n a
+arcs-of p n a r g = record { limits = g .limits; sound = g .sound; law-D = g .law-D; law-U = g .law-U; arcs = g .arcs }
 
 module _ (p : Places) (n : ℕ) (a : List ℕ) (g : GivenArcs (placesOf p) n a) where
   -- well-formed arcs of a lawful language are a network

@@ -5,6 +5,7 @@ use mathlib.Core.Path.{_≡_}
 use mathlib.Core.Bool.{Bool, true, false, cond}
 use mathlib.Core.List.{List, [], _++_}
 use lib.ListN.{length, take, drop}
+use Rattle.refusals.specs.declared.Refusal.{Refusal}
 use Rattle.refusals.specs.declared.Refusal.the-variants.{Value}
 use Rattle.refusals.specs.declared.Check.{Check}
 use Rattle.refusals.specs.declared.Check.the-variants.{Passed, Refused}
@@ -68,3 +69,13 @@ pub record Square (n : ℕ) (s : List ℕ) : Type 0 where
 pub record Formed (cap : ℕ) (cs : List Component) (n : ℕ) (s : List ℕ) : Type 0 where
   pub square : Square n s
   pub reads : (i j : ℕ) → i < n → j < n → wellFormed cap cs s (entryPlace n i j) ≡ true
+
+-- r is refusal 6 at entry (row, column), which is malformed, and every entry before it, by rows, is well-formed
+pub record AtFirst (which cap : ℕ) (cs : List Component) (n : ℕ) (s : List ℕ) (r : Refusal) : Type 0 where
+  pub row : ℕ
+  pub column : ℕ
+  pub row-below : row < n
+  pub column-below : column < n
+  pub fails : wellFormed cap cs s (entryPlace n row column) ≡ false
+  pub before : (i j : ℕ) → i < n → j < n → i * n + j < row * n + column → wellFormed cap cs s (entryPlace n i j) ≡ true
+  pub told : r ≡ Value which (entryPlace n row column)

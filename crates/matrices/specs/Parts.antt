@@ -1,5 +1,5 @@
--- What the inner functions say on the way to Buffers and Steps: one arc taken into a row, one pass over a column.
--- They join the code to those; what has to be believed of it is `GivenArcs` and `column`, which `settle_column` cites.
+-- What the inner functions say on the way to Buffers and Steps: one arc taken into a row.
+-- They join the code to those; nothing here has to be believed.
 use Prim.Native.Nat.{ℕ, zero, suc, _*_, _≤_, _<_}
 use mathlib.Core.Path.{_≡_}
 use mathlib.Core.Bool.{Bool, true, cond, _&&_}
@@ -59,39 +59,3 @@ pub record Single (p : Places) : Type 0 where
   pub second : p .second ≡ Class 0
   pub third : p .third ≡ Class 0
   pub fourth : p .fourth ≡ Class 0
-
--- ---- a column
-
-abbrev pub column : Matrix → ℕ → ℕ → Weight
-column R j i = R i j
-
--- the weight from i by way of k, where the column c holds what is known from k
-abbrev pub via : List Component → Matrix → (ℕ → Weight) → ℕ → ℕ → Weight
-via cs A c i k = join cs (A i k) (c k)
-
--- what a row step of row i makes of the column c with target j
-abbrev pub renewed : List Component → ℕ → Matrix → ℕ → (ℕ → Weight) → ℕ → Weight
-renewed cs n A j c i = bestOf (order (language cs)) n (via cs A c i) (fresh (language cs) i j)
-
--- the row steps 0 .. m - 1, in order, on a column
-unfoldable pub passed : List Component → ℕ → Matrix → ℕ → ℕ → (ℕ → Weight) → ℕ → Weight
-passed cs n A j zero c i = c i
-passed cs n A j (suc m) c i = cond (eqb i m) (renewed cs n A j (passed cs n A j m c) i) (passed cs n A j m c i)
-
--- R with column j replaced
-abbrev pub setColumn : ℕ → (ℕ → Weight) → Matrix → Matrix
-setColumn j g R i v = cond (eqb v j) (g i) (R i v)
-
--- A lawful language with small limits, and well-formed arcs.
-pub record GivenArcs (cs : List Component) (n : ℕ) (a : List ℕ) : Type 0 where
-  pub limits : SmallLimits 65535 cs
-  pub sound : Sound cs
-  pub law-D : testD cs ≡ true
-  pub law-U : testU cs ≡ true
-  pub arcs : Formed arcSum cs n a
-
--- a column of weights, no value above cap, in the front of s
-pub record Held (cap : ℕ) (cs : List Component) (n : ℕ) (s : List ℕ) : Type 0 where
-  pub room : n * weightWords ≤ length s
-  pub valid : (i : ℕ) → i < n → Valid cs (rowIn places s i)
-  pub small : (i : ℕ) → i < n → AtMost cap (rowIn places s i)

@@ -1,5 +1,5 @@
 -- A row step with its refusal 11, and the test of the routing equation, on matrices as functions from (i, j) to weights.
--- To be believed: all but `Given`, which says what the inner functions may rely on.
+-- To be believed: all but `Given`, which says what the inner functions may rely on, and `GivenArcs`, the same of the arcs alone.
 use Prim.Native.Nat.{ℕ, zero, suc}
 use mathlib.Core.Path.{_≡_}
 use mathlib.Core.Bool.{Bool, true, false, cond, _&&_}
@@ -55,6 +55,14 @@ rowSolves cs n A R i = every n (λ j. same (routed (language cs) n A R i j) (R i
 
 abbrev pub solves : List Component → ℕ → Matrix → Matrix → Bool
 solves cs n A R = every n (rowSolves cs n A R)
+
+-- What a settle is given: a lawful language with small limits, and well-formed arcs.
+pub record GivenArcs (cs : List Component) (n : ℕ) (a : List ℕ) : Type 0 where
+  pub limits : SmallLimits 65535 cs
+  pub sound : Sound cs
+  pub law-D : testD cs ≡ true
+  pub law-U : testU cs ≡ true
+  pub arcs : Formed arcSum cs n a
 
 -- What the inner functions are given: a lawful language with small limits, and well-formed matrices.
 pub record Given (cs : List Component) (n : ℕ) (a r : List ℕ) : Type 0 where

@@ -1,5 +1,6 @@
 // One arc taken into a whole row; in a language of one component only the first values are joined.
 use weights::Component;
+use weights::ONES;
 use weights::Places;
 use weights::WEIGHT_WORDS;
 use weights::Weight;
@@ -14,6 +15,7 @@ ghost use Rattle.weights.specs.Weights.{join, betterOf};
 ghost use Rattle.weights.specs.Languages.{placesOf, weightOf, AtMost};
 ghost use Rattle.weights.specs.Words.{words};
 ghost use Rattle.matrices.specs.Buffers.{rowWords, cell, rowIn, matrixIn, Square};
+ghost use Rattle.matrices.specs.Steps.{Given};
 ghost use Rattle.matrices.specs.Parts.{folded, Lone, Single};
 
 fn is_unused(c: Component) -> bool
@@ -115,20 +117,25 @@ fn fold_arc(p: Places, single: bool, x: Weight, r: &[u32], n: usize, k: usize, r
     }
 }
 
-// The same; an arc that is no route is left out before R is read.
-pub fn take_arc(p: Places, single: bool, x: Weight, r: &[u32], n: usize, k: usize, row: &mut [u32])
-    requires { ⌜ Square n (now r) × (k < n) × (n * weightWords ≤ length (now row)) × AtMost arcSum (weightOf x) ⌝ }
-    requires { ⌜ ((j : ℕ) → j < n → AtMost matrixSum (matrixIn places n (now r) k j)) ⌝ }
-    requires { ⌜ (single ≡ true → (j : ℕ) → j < n → Lone (placesOf p) (weightOf x) (matrixIn places n (now r) k j)) ⌝ }
-    ensures { λ _. ⌜ now (row .exit) ≡ rowWords n (folded (placesOf p) (weightOf x) (matrixIn places n (now (r .entry)) k) (rowIn places (now (row .entry)))) ++ drop (n * weightWords) (now (row .entry)) ⌝ }
+// The arc from i to k, joined row k of R, taken into the row; an arc that is no route is left out before R is read.
+pub fn take_arc(
+    p: Places,
+    single: bool,
+    n: usize,
+    a: &[u32],
+    r: &[u32],
+    i: usize,
+    k: usize,
+    row: &mut [u32],
+)
+    requires { ⌜ Given (placesOf p) n (now a) (now r) × (i < n) × (k < n) × (n * weightWords ≤ length (now row)) × (single ≡ true → Single p) ⌝ }
+    ensures { λ _. ⌜ now (row .exit) ≡ rowWords n (folded (placesOf p) (matrixIn places n (now (a .entry)) i k) (matrixIn places n (now (r .entry)) k) (rowIn places (now (row .entry)))) ++ drop (n * weightWords) (now (row .entry)) ⌝ }
 {
-    match x {
-        Weight::Route {
-            first: _,
-            second: _,
-            third: _,
-            fourth: _,
-        } => fold_arc(p, single, x, r, n, k, row),
-        Weight::NoRoute => {}
+    let at = i * (n * WEIGHT_WORDS) + k * WEIGHT_WORDS;
+    let first = a[at];
+    if first == ONES {
+        return;
     }
+    let x = weights::words::weight_at(a, at);
+    fold_arc(p, single, x, r, n, k, row);
 }

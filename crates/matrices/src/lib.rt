@@ -1,7 +1,6 @@
-// Matrices of weights in flat buffers, by rows: their checks, the fresh matrix, row steps, settle steps and the routing equation.
+// Matrices of weights in flat buffers, by rows: their checks, the fresh matrix, row steps and the routing equation.
 pub mod arcs;
 pub mod checks;
-pub mod columns;
 pub mod equation;
 pub mod fresh;
 pub mod rows;

@@ -1,6 +1,7 @@
 // Row steps: row i worked out anew beside the matrix, and put in its place where every sum fits.
 use super::arcs;
 use super::fresh;
+use numbers::Node;
 use weights::MATRIX_SUM;
 use weights::Places;
 use weights::WEIGHT_WORDS;
@@ -24,11 +25,9 @@ pub fn new_row(p: Places, n: usize, a: &[u32], r: &[u32], i: usize, row: &mut [u
 {
     let single = arcs::is_single(p);
     fresh::fresh_row(p, n, i, row);
-    let from = i * (n * WEIGHT_WORDS);
     let mut k: usize = 0;
     while k < n {
-        let x = weights::words::weight_at(a, from + k * WEIGHT_WORDS);
-        arcs::take_arc(p, single, x, r, n, k, row);
+        arcs::take_arc(p, single, n, a, r, i, k, row);
         k += 1;
     }
 }
@@ -85,12 +84,13 @@ fn write_row(row: &[u32], part: &mut [u32])
     }
 }
 
-// Row step i: done, or refused, with the matrix untouched, where it would store a sum above 983,025.
-pub fn row_step(p: Places, n: usize, a: &[u32], r: &mut [u32], i: usize) -> bool
-    requires { ⌜ Given (placesOf p) n (now a) (now r) × (i < n) ⌝ }
-    ensures { λ ok. ⌜ ok ≡ rowFits (placesOf p) n (matrixIn places n (now (a .entry))) (matrixIn places n (now (r .entry))) i ⌝ }
-    ensures { λ _. ⌜ now (r .exit) ≡ matrixWords n (stepped (placesOf p) n (matrixIn places n (now (a .entry))) (matrixIn places n (now (r .entry))) i) ⌝ }
+// The row step of a node: done, or refused, with the matrix untouched, where it would store a sum above 983,025.
+pub fn row_step(p: Places, n: usize, a: &[u32], r: &mut [u32], node: Node) -> bool
+    requires { ⌜ Given (placesOf p) n (now a) (now r) × (node .0 < n) ⌝ }
+    ensures { λ ok. ⌜ ok ≡ rowFits (placesOf p) n (matrixIn places n (now (a .entry))) (matrixIn places n (now (r .entry))) (node .0) ⌝ }
+    ensures { λ _. ⌜ now (r .exit) ≡ matrixWords n (stepped (placesOf p) n (matrixIn places n (now (a .entry))) (matrixIn places n (now (r .entry))) (node .0)) ⌝ }
 {
+    let i = node.0;
     let mut row = [0u32; 64];
     new_row(p, n, a, r, i, &mut row);
     if row_low(n, &row) {

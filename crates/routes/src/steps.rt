@@ -73,13 +73,9 @@ fn one_step(p: Places, n: usize, a: &[u32], r: &mut [u32], x: u32) -> bool
     ensures { λ _. ⌜ now (r .exit) ≡ stepLeft (placesOf p) n (now (a .entry)) (now (r .entry)) (stepOf x) ⌝ }
 {
     match step_of(x) {
-        Step::Row(node) => {
-            let i = node.0;
-            matrices::rows::row_step(p, n, a, r, i)
-        }
+        Step::Row(node) => matrices::rows::row_step(p, n, a, r, node),
         Step::Settle(node) => {
-            let j = node.0;
-            matrices::columns::settle(p, n, a, r, j);
+            columns::settling::settle(p, n, a, r, node);
             true
         }
     }
@@ -91,14 +87,14 @@ fn run(p: Places, n: usize, a: &[u32], r: &mut [u32], list: &[u32]) -> u32
     ensures { λ k. ⌜ k ≡ runDone (placesOf p) n (now (a .entry)) (now (r .entry)) (map stepOf (now (list .entry))) ⌝ }
     ensures { λ _. ⌜ now (r .exit) ≡ runLeft (placesOf p) n (now (a .entry)) (now (r .entry)) (map stepOf (now (list .entry))) ⌝ }
 {
-    let mut k: usize = 0;
-    while k < list.len() {
-        if !one_step(p, n, a, r, list[k]) {
-            return k as u32;
+    let mut done: usize = 0;
+    while done < list.len() {
+        if !one_step(p, n, a, r, list[done]) {
+            return done as u32;
         }
-        k += 1;
+        done += 1;
     }
-    k as u32
+    done as u32
 }
 
 // Runs a list of steps on r. Refuses 3, 5, 4, 9, 10, 6 on A and R, 13, 7, and 11 while running: then the earlier steps stand.

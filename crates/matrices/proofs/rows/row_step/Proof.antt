@@ -12,8 +12,8 @@ use Rattle.matrices.proofs.rows.row_step.Statement.{statement}
 use Rattle.matrices.proofs.rows.row_step.Tie as tie
 
 -- row i lies within the matrix, which is small
-room : (s : tie.Start) → (s .args .i * (s .args .n * weightWords) + s .args .n * weightWords ≤ length (s .args .r .now)) × (length (s .args .r .now) ≤ 1024)
-room s = row-room (s .args .n) (s .args .i) (s .args .r .now) (s .pre .0 .routes .square) (s .pre .1)
+room : (s : tie.Start) → (s .args .node .0 * (s .args .n * weightWords) + s .args .n * weightWords ≤ length (s .args .r .now)) × (length (s .args .r .now) ≤ 1024)
+room s = row-room (s .args .n) (s .args .node .0) (s .args .r .now) (s .pre .0 .routes .square) (s .pre .1)
 
 slice-aggregate-new-row : tie.Need-slice-aggregate-new-row
 slice-aggregate-new-row c = search needs
@@ -62,9 +62,9 @@ returns c =
     let t = c .before .before .before .before .before in
     let s = t .before .before .before .before .before .before .before .before .before in
     let m = t .before .before .before .before in
-    let fit = made-fits (s .args .p) (s .args .n) (s .args .a .now) (s .args .r .now) (s .pre .0) (s .args .i) (s .pre .1) _ _ (m .new-row .ensures) in
+    let fit = made-fits (s .args .p) (s .args .n) (s .args .a .now) (s .args .r .now) (s .pre .0) (s .args .node .0) (s .pre .1) _ _ (m .new-row .ensures) in
     let e = sym fit ∙ sym (t .before .row-low .ensures) ∙ t .if1 .taken in
-    (sym e, done-is (placesOf (s .args .p)) (s .args .n) (matrixIn places (s .args .n) (s .args .a .now)) (s .args .r .now) (s .args .i) (s .pre .0 .routes .square) (s .pre .1) _ _ _ (m .new-row .ensures) (c .before .before .write-row .ensures) e)
+    (sym e, done-is (placesOf (s .args .p)) (s .args .n) (matrixIn places (s .args .n) (s .args .a .now)) (s .args .r .now) (s .args .node .0) (s .pre .0 .routes .square) (s .pre .1) _ _ _ (m .new-row .ensures) (c .before .before .write-row .ensures) e)
 
 same-length-2 : tie.Need-same-length-2
 same-length-2 c = search needs
@@ -73,9 +73,9 @@ returns-2 : tie.Need-returns-2
 returns-2 c =
     let s = c .before .before .before .before .before .before .before .before .before in
     let m = c .before .before .before .before in
-    let fit = made-fits (s .args .p) (s .args .n) (s .args .a .now) (s .args .r .now) (s .pre .0) (s .args .i) (s .pre .1) _ _ (m .new-row .ensures) in
+    let fit = made-fits (s .args .p) (s .args .n) (s .args .a .now) (s .args .r .now) (s .pre .0) (s .args .node .0) (s .pre .1) _ _ (m .new-row .ensures) in
     let e = sym fit ∙ sym (c .before .row-low .ensures) ∙ c .if1 .left in
-    (sym e, over-is (placesOf (s .args .p)) (s .args .n) (matrixIn places (s .args .n) (s .args .a .now)) (s .args .r .now) (s .args .i) (s .pre .0 .routes .square) e)
+    (sym e, over-is (placesOf (s .args .p)) (s .args .n) (matrixIn places (s .args .n) (s .args .a .now)) (s .args .r .now) (s .args .node .0) (s .pre .0 .routes .square) e)
 
 pub row-step-spec : {M : Type 1} → statement M
 row-step-spec =

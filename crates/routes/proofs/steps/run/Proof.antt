@@ -9,10 +9,10 @@ use Rattle.routes.proofs.steps.run.Statement.{statement}
 use Rattle.routes.proofs.steps.run.Tie as tie
 
 abbrev Inv-loop : tie.InvT-loop
-Inv-loop p n a r₀ list k₀ r k = (k ≤ length list) × Running p n a r₀ list k r
+Inv-loop p n a r₀ list done₀ r done = (done ≤ length list) × Running p n a r₀ list done r
 
 abbrev μ-loop : tie.MeasureT-loop
-μ-loop p n a r₀ list k₀ r k = length list - k
+μ-loop p n a r₀ list done₀ r done = length list - done
 
 loop-holds : tie.Need-loop-holds Inv-loop μ-loop
 loop-holds c = let s = c .before .before .before in (omega arith, running-none (s .args .p) (s .args .n) (s .args .a .now) (s .args .r .now) (s .args .list .now) (s .pre .0) (s .pre .1))
@@ -27,7 +27,7 @@ one-step-requires : tie.Need-one-step-requires Inv-loop μ-loop
 one-step-requires c κs =
     let l = c .before .before .before in
     let s = l .before .before .before .before in
-    (l .loop .inv .1 .well, steps-here (s .args .n) (s .args .list .now) (l .loop .k) (c .before .before .loop-test .taken) (l .loop .inv .1 .steps))
+    (l .loop .inv .1 .well, steps-here (s .args .n) (s .args .list .now) (l .loop .done) (c .before .before .loop-test .taken) (l .loop .inv .1 .steps))
 
 cast-result : tie.Need-cast-result Inv-loop μ-loop
 cast-result c = search needs
@@ -41,10 +41,10 @@ returns c =
     let t = m .before .before .before in
     let l = t .before in
     let s = l .before .before .before .before in
-    running-stop (s .args .p) (s .args .n) (s .args .a .now) (s .args .r .now) (s .args .list .now) (l .loop .k) (l .loop .r) _ (l .loop .inv .1) (t .loop-test .taken) (m .one-step .ensures .1) (m .one-step .ensures .0) (not-true _ (c .if1 .taken))
+    running-stop (s .args .p) (s .args .n) (s .args .a .now) (s .args .r .now) (s .args .list .now) (l .loop .done) (l .loop .r) _ (l .loop .inv .1) (t .loop-test .taken) (m .one-step .ensures .1) (m .one-step .ensures .0) (not-true _ (c .if1 .taken))
 
-add-k : tie.Need-add-k Inv-loop μ-loop
-add-k c = omega arith
+add-done : tie.Need-add-done Inv-loop μ-loop
+add-done c = omega arith
 
 loop-less : tie.Need-loop-less Inv-loop μ-loop
 loop-less c = omega arith
@@ -55,7 +55,7 @@ loop-again c =
     let t = m .before .before .before in
     let l = t .before in
     let s = l .before .before .before .before in
-    (omega arith, running-more (s .args .p) (s .args .n) (s .args .a .now) (s .args .r .now) (s .args .list .now) (l .loop .k) (l .loop .r) _ (l .loop .inv .1) (t .loop-test .taken) (m .one-step .ensures .1) (m .one-step .ensures .0) (not-false _ (c .if1 .left)))
+    (omega arith, running-more (s .args .p) (s .args .n) (s .args .a .now) (s .args .r .now) (s .args .list .now) (l .loop .done) (l .loop .r) _ (l .loop .inv .1) (t .loop-test .taken) (m .one-step .ensures .1) (m .one-step .ensures .0) (not-false _ (c .if1 .left)))
 
 cast-result-2 : tie.Need-cast-result-2 Inv-loop μ-loop
 cast-result-2 c = search needs
@@ -67,7 +67,7 @@ returns-2 : tie.Need-returns-2 Inv-loop μ-loop
 returns-2 c =
     let l = c .before in
     let s = l .before .before .before .before in
-    running-all (s .args .p) (s .args .n) (s .args .a .now) (s .args .r .now) (s .args .list .now) (l .loop .k) (l .loop .r) [] (l .loop .inv .1) (omega arith)
+    running-all (s .args .p) (s .args .n) (s .args .a .now) (s .args .r .now) (s .args .list .now) (l .loop .done) (l .loop .r) [] (l .loop .inv .1) (omega arith)
 
 pub run-spec : {M : Type 1} → statement M
 run-spec =
@@ -82,7 +82,7 @@ run-spec =
     cast-result
     same-length
     returns
-    add-k
+    add-done
     loop-less
     loop-again
     cast-result-2

@@ -4,12 +4,12 @@ use native.Mathlib.Omega.{arith}
 use lib.ListN.{length}
 use Rattle.weights.specs.Sizes.{places, weightWords}
 use Rattle.weights.specs.Languages.{weightOf}
 use Rattle.matrices.specs.Buffers.{matrixWords, entryPlace, rowIn, matrixIn}
 use Rattle.matrices.proofs.Blocks.{place-room, square-small}
 use Rattle.matrices.proofs.Entries.{cell-is, write-is, matrix-self, length-matrix}
-use Rattle.matrices.proofs.Written.{columnTo, column-none, column-more, column-all}
-use Rattle.matrices.proofs.columns.write_column.Statement.{statement}
-use Rattle.matrices.proofs.columns.write_column.Tie as tie
+use Rattle.columns.proofs.Written.{columnTo, column-none, column-more, column-all}
+use Rattle.columns.proofs.settling.write_column.Statement.{statement}
+use Rattle.columns.proofs.settling.write_column.Tie as tie
 
 abbrev Inv-loop : tie.InvT-loop
 Inv-loop n j col r₀ i₀ r i = (i ≤ n) × (length r ≡ n * (n * weightWords)) × (r ≡ matrixWords n (columnTo i j (rowIn places col) (matrixIn places n r₀)))

@@ -4,11 +4,11 @@ use Rattle.algebra.specs.Order.{pick}
 use Rattle.weights.specs.Sizes.{arcSum}
 use Rattle.weights.specs.Weights.{join, betterOf}
 use Rattle.weights.specs.Languages.{placesOf, weightOf, AtMost}
 use Rattle.matrices.proofs.Entries.{cell-is}
 use Rattle.matrices.proofs.Bounds.{most-weaken}
 use borrow.Author.Needs.{needs}
-use Rattle.matrices.proofs.columns.take_entry.Statement.{statement}
-use Rattle.matrices.proofs.columns.take_entry.Tie as tie
+use Rattle.columns.proofs.settling.take_entry.Statement.{statement}
+use Rattle.columns.proofs.settling.take_entry.Tie as tie
 
 enum-told : tie.Need-enum-told
 enum-told c = search needs

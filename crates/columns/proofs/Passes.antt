@@ -23,13 +23,13 @@ use Rattle.weights.specs.Sizes.{places, weightWords, arcSum, matrixSum}
 use Rattle.weights.specs.Weights.{Weight, none, join, betterOf, unit, language}
 use Rattle.weights.specs.Languages.{placesOf}
 use Rattle.weights.specs.Words.{words}
 use Rattle.matrices.specs.Buffers.{rowWords, matrixWords, rowIn, matrixIn}
-use Rattle.matrices.specs.Steps.{Matrix, Given}
-use Rattle.matrices.specs.Parts.{column, via, renewed, passed, setColumn, GivenArcs, Held}
+use Rattle.matrices.specs.Steps.{Matrix, GivenArcs}
+use Rattle.columns.specs.Columns.{column, via, renewed, passed, setColumn, Held}
 use Rattle.matrices.proofs.Blocks.{front-put, blocks-cong}
 use Rattle.matrices.proofs.Entries.{length-words, length-row, row-cong, row-reads, matrix-cong}
 use Rattle.matrices.proofs.Bounds.{Within, within-weaken, within-join, within-best, within-fresh, formed-within, within-back}
 use Rattle.matrices.proofs.Sums.{network, reached-within, best-within}
 
 -- ---- columns that agree
 
@@ -240,7 +240,3 @@ module _ (p : Places) (n : ℕ) (a : List ℕ) (g : GivenArcs (placesOf p) n a) 
       one : (i v : ℕ) → i < n → (b : Bool) → eqb v j ≡ b → cond b (rowIn places s i) (R i v) ≡ cond b (best (language (placesOf p)) n (matrixIn places n a) i v) (R i v)
       one i v hi true q = settled-entry s z e i hi ∙ ap (best (language (placesOf p)) n (matrixIn places n a) i) (sym (eqb-true v j q))
       one i v hi false q = refl
-
--- what a settle step is given, without its routes
-pub arcs-of : (p : Places) (n : ℕ) (a r : List ℕ) → Given (placesOf p) n a r → GivenArcs (placesOf p) n a
-arcs-of p n a r g = record { limits = g .limits; sound = g .sound; law-D = g .law-D; law-U = g .law-U; arcs = g .arcs }

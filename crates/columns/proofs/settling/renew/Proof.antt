@@ -8,15 +8,15 @@ use Rattle.algebra.specs.Step.{fresh}
 use Rattle.weights.specs.Sizes.{places, weightWords, arcSum}
 use Rattle.weights.specs.Weights.{language}
 use Rattle.weights.specs.Languages.{placesOf, weightOf, AtMost}
 use Rattle.matrices.specs.Buffers.{entryPlace, rowIn, matrixIn}
-use Rattle.matrices.specs.Parts.{via}
+use Rattle.columns.specs.Columns.{via}
 use Rattle.matrices.proofs.Blocks.{place-room}
 use Rattle.matrices.proofs.Entries.{row-room, cell-is}
 use Rattle.matrices.proofs.Bounds.{formed-most}
-use Rattle.matrices.proofs.Passes.{renewed-none, renewed-more, renewed-all}
+use Rattle.columns.proofs.Passes.{renewed-none, renewed-more, renewed-all}
 use borrow.Author.Needs.{needs}
-use Rattle.matrices.proofs.columns.renew.Statement.{statement}
-use Rattle.matrices.proofs.columns.renew.Tie as tie
+use Rattle.columns.proofs.settling.renew.Statement.{statement}
+use Rattle.columns.proofs.settling.renew.Tie as tie
 
 abbrev Inv-loop : tie.InvT-loop
 Inv-loop p n a i j col from w₀ k₀ w k = (k ≤ n) × (from ≡ i * (n * weightWords)) × (weightOf w₀ ≡ fresh (language (placesOf p)) i j) × (weightOf w ≡ bestOf (order (language (placesOf p))) k (via (placesOf p) (matrixIn places n a) (rowIn places col) i) (weightOf w₀))

@@ -1,10 +1,11 @@
 use mathlib.Core.Path.{_∙_}
 use Rattle.weights.specs.Sizes.{places}
 use Rattle.matrices.specs.Buffers.{matrixIn}
-use Rattle.matrices.proofs.Passes.{arcs-of, settled-is}
+use Rattle.matrices.proofs.Sums.{arcs-of}
+use Rattle.columns.proofs.Passes.{settled-is}
 use borrow.Author.Needs.{needs}
-use Rattle.matrices.proofs.columns.settle.Statement.{statement}
-use Rattle.matrices.proofs.columns.settle.Tie as tie
+use Rattle.columns.proofs.settling.settle.Statement.{statement}
+use Rattle.columns.proofs.settling.settle.Tie as tie
 
 slice-aggregate-settle-column : tie.Need-slice-aggregate-settle-column
 slice-aggregate-settle-column c = search needs
@@ -26,7 +27,7 @@ returns c =
     let s = c .before .before .before .before .before .before .before .before .before .before in
     let g = arcs-of (s .args .p) (s .args .n) (s .args .a .now) (s .args .r .now) (s .pre .0) in
     c .before .before .write-column .ensures
-    ∙ settled-is (s .args .p) (s .args .n) (s .args .a .now) g (s .args .j) (matrixIn places (s .args .n) (s .args .r .now)) _ _ (c .before .before .before .before .before .before .settle-column .ensures)
+    ∙ settled-is (s .args .p) (s .args .n) (s .args .a .now) g (s .args .node .0) (matrixIn places (s .args .n) (s .args .r .now)) _ _ (c .before .before .before .before .before .before .settle-column .ensures)
 
 pub settle-spec : {M : Type 1} → statement M
 settle-spec =

@@ -3,9 +3,9 @@ use mathlib.Core.Path.{refl}
 use native.Mathlib.Omega.{arith}
 use lib.ListN.{length}
 use Rattle.weights.specs.Sizes.{weightWords}
-use Rattle.matrices.proofs.Passes.{Settling, settling-none, settling-held, settling-more, settling-next, settling-all}
-use Rattle.matrices.proofs.columns.settle_column.Statement.{statement}
-use Rattle.matrices.proofs.columns.settle_column.Tie as tie
+use Rattle.columns.proofs.Passes.{Settling, settling-none, settling-held, settling-more, settling-next, settling-all}
+use Rattle.columns.proofs.settling.settle_column.Statement.{statement}
+use Rattle.columns.proofs.settling.settle_column.Tie as tie
 
 abbrev Inv-loop : tie.InvT-loop
 Inv-loop p n a j col₀ t₀ col t = (1 ≤ t) × (n * weightWords ≤ length col₀) × Settling p n a j col₀ (t - 1) col
@@ -17,7 +17,7 @@ few : (s : tie.Start Inv-loop μ-loop) → s .args .n ≤ 16
 few s = s .pre .0 .arcs .square .few
 
 fresh-row-requires : tie.Need-fresh-row-requires Inv-loop μ-loop
-fresh-row-requires c κs = let s = c .before .before .before in (few s, s .pre .1)
+fresh-row-requires c κs = let s = c .before .before .before in omega (arith, few s, s .pre .1)
 
 loop-holds : tie.Need-loop-holds Inv-loop μ-loop
 loop-holds c = (omega arith, omega arith, settling-none _ _ _ _ _ _ _ (c .before .before .fresh-row .ensures) refl)

@@ -14,11 +14,11 @@ use lib.Seq.{take-add, drop-drop, take-at, drop-at, take-append-le, drop-append-
 use Rattle.weights.specs.Sizes.{weightWords}
 use Rattle.weights.specs.Weights.{Weight}
 use Rattle.weights.specs.Words.{words}
 use Rattle.matrices.specs.Buffers.{rowWords, matrixWords, entryPlace}
 use Rattle.matrices.specs.Steps.{Matrix}
-use Rattle.matrices.specs.Parts.{setColumn}
+use Rattle.columns.specs.Columns.{setColumn}
 use Rattle.matrices.proofs.Blocks.{blocks-put, blocks-cong, blocks-at, block-room}
 use Rattle.matrices.proofs.Entries.{length-words, length-row, length-matrix, matrix-cong, put-row}
 
 -- a part within a block of a list: l is what lies before the block, b the block, z the rest
 put-inside : (l b z x : List ℕ) (p q m : ℕ) → length l ≡ p → q + m ≤ length b

@@ -3,10 +3,10 @@ use mathlib.Core.Path.{_∙_}
 use native.Mathlib.Omega.{arith}
 use lib.ListN.{length}
 use Rattle.weights.specs.Sizes.{weightWords}
 use Rattle.matrices.proofs.Entries.{write-is, row-whole}
-use Rattle.matrices.proofs.Passes.{Passing, passing-none, passing-held, passing-more, passing-all}
-use Rattle.matrices.proofs.columns.pass.Statement.{statement}
-use Rattle.matrices.proofs.columns.pass.Tie as tie
+use Rattle.columns.proofs.Passes.{Passing, passing-none, passing-held, passing-more, passing-all}
+use Rattle.columns.proofs.settling.pass.Statement.{statement}
+use Rattle.columns.proofs.settling.pass.Tie as tie
 
 abbrev Inv-loop : tie.InvT-loop
 Inv-loop p n a j col₀ i₀ col i = (i ≤ n) × Passing p n a j col₀ i col

@@ -1,5 +1,5 @@
 // Settle steps: column j set to the best weights, which n - 1 passes over the fresh column make.
-use super::fresh;
+use numbers::Node;
 use weights::Places;
 use weights::WEIGHT_WORDS;
 use weights::Weight;
@@ -12,9 +12,9 @@ ghost use Rattle.algebra.specs.Step.{settle, step};
 ghost use Rattle.weights.specs.Sizes.{places, weightWords, arcSum, matrixSum};
 ghost use Rattle.weights.specs.Weights.{join, betterOf, language};
 ghost use Rattle.weights.specs.Languages.{placesOf, weightOf, AtMost};
 ghost use Rattle.matrices.specs.Buffers.{rowWords, matrixWords, cell, rowIn, matrixIn, Square};
-ghost use Rattle.matrices.specs.Steps.{Given};
-ghost use Rattle.matrices.specs.Parts.{column, renewed, passed, setColumn, GivenArcs, Held};
+ghost use Rattle.matrices.specs.Steps.{GivenArcs, Given};
+ghost use Rattle.columns.specs.Columns.{column, renewed, passed, setColumn, Held};
 
 // The better of w and of x joined the weight at `at`; an arc that is no route is left out before the column is read.
 fn take_entry(p: Places, w: Weight, x: Weight, col: &[u32], at: usize) -> Weight
@@ -41,7 +41,7 @@ fn renew(p: Places, n: usize, a: &[u32], i: usize, j: usize, col: &[u32]) -> Wei
     ensures { λ w. ⌜ weightOf w ≡ renewed (placesOf p) n (matrixIn places n (now (a .entry))) j (rowIn places (now (col .entry))) i ⌝ }
 {
     let from = i * (n * WEIGHT_WORDS);
-    let mut w = fresh::fresh_weight(p, i, j);
+    let mut w = matrices::fresh::fresh_weight(p, i, j);
     let mut k: usize = 0;
     while k < n {
         let x = weights::words::weight_at(a, from + k * WEIGHT_WORDS);
@@ -69,7 +69,7 @@ pub fn settle_column(p: Places, n: usize, a: &[u32], j: usize, col: &mut [u32])
     requires { ⌜ GivenArcs (placesOf p) n (now a) × (n * weightWords ≤ length (now col)) ⌝ }
     ensures { λ _. ⌜ now (col .exit) ≡ rowWords n (column (best (language (placesOf p)) n (matrixIn places n (now (a .entry)))) j) ++ drop (n * weightWords) (now (col .entry)) ⌝ }
 {
-    fresh::fresh_row(p, n, j, col);
+    matrices::fresh::fresh_row(p, n, j, col);
     let mut t: usize = 1;
     while t < n {
         pass(p, n, a, j, col);
@@ -90,11 +90,12 @@ fn write_column(n: usize, j: usize, col: &[u32], r: &mut [u32])
     }
 }
 
-// Settle step j.
-pub fn settle(p: Places, n: usize, a: &[u32], r: &mut [u32], j: usize)
-    requires { ⌜ Given (placesOf p) n (now a) (now r) × (j < n) ⌝ }
-    ensures { λ _. ⌜ now (r .exit) ≡ matrixWords n (step (language (placesOf p)) n (matrixIn places n (now (a .entry))) (settle j) (matrixIn places n (now (r .entry)))) ⌝ }
+// The settle step of a node: its column becomes the best weights, whatever it held.
+pub fn settle(p: Places, n: usize, a: &[u32], r: &mut [u32], node: Node)
+    requires { ⌜ Given (placesOf p) n (now a) (now r) × (node .0 < n) ⌝ }
+    ensures { λ _. ⌜ now (r .exit) ≡ matrixWords n (step (language (placesOf p)) n (matrixIn places n (now (a .entry))) (settle (node .0)) (matrixIn places n (now (r .entry)))) ⌝ }
 {
+    let j = node.0;
     let mut col = [0u32; 64];
     settle_column(p, n, a, j, &mut col);
     write_column(n, j, &col, r);
