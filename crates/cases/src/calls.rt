@@ -1,7 +1,7 @@
 // A function for each call: it takes the buffers from the request, calls, and sends the response. False where the request
 // does not add up.
-use super::frames;
-use super::requests;
+use exchange::frames;
+use exchange::requests;
 use laws::Law;
 use laws::LawAnswer;
 use laws::Words;

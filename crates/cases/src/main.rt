@@ -4,8 +4,9 @@
 // Response: number, which, place; the values of the answer; every buffer that the call may write. It is the single word
 // 4294967295 where a buffer is too long for this program. A request that does not add up ends the program.
 mod calls;
-mod frames;
-mod requests;
+
+use exchange::frames;
+use exchange::requests;
 
 // Answers one request; false where it is none.
 fn answer(words: &[u32]) -> bool {

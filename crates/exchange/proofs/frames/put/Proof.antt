@@ -3,8 +3,8 @@ use mathlib.Core.Path.{_≡_}
 use lib.ListN.{length, length-set}
 use native.Mathlib.Omega.{arith}
 use borrow.Author.Needs.{needs}
-use Rattle.cases.proofs.frames.put.Statement.{statement}
-use Rattle.cases.proofs.frames.put.Tie as tie
+use Rattle.exchange.proofs.frames.put.Statement.{statement}
+use Rattle.exchange.proofs.frames.put.Tie as tie
 
 abbrev Inv-loop : tie.InvT-loop
 Inv-loop frame₀ start words at₀ i₀ frame at i = length frame ≡ length frame₀

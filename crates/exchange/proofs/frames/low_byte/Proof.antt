@@ -1,7 +1,7 @@
 use lib.Bits.{mask-lt}
 use borrow.Author.Needs.{needs}
-use Rattle.cases.proofs.frames.low_byte.Statement.{statement}
-use Rattle.cases.proofs.frames.low_byte.Tie as tie
+use Rattle.exchange.proofs.frames.low_byte.Statement.{statement}
+use Rattle.exchange.proofs.frames.low_byte.Tie as tie
 
 cast-result : tie.Need-cast-result
 cast-result c = record { fits = mask-lt (c .args .word) 8 }

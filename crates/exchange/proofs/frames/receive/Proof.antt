@@ -2,8 +2,8 @@ use mathlib.Core.Path.{sym}
 use native.Mathlib.Omega.{arith}
 use borrow.Table.Elements.{length-take-le}
 use borrow.Author.Needs.{needs}
-use Rattle.cases.proofs.frames.receive.Statement.{statement}
-use Rattle.cases.proofs.frames.receive.Tie as tie
+use Rattle.exchange.proofs.frames.receive.Statement.{statement}
+use Rattle.exchange.proofs.frames.receive.Tie as tie
 
 slice-aggregate-read-full : tie.Need-slice-aggregate-read-full
 slice-aggregate-read-full c = search needs

@@ -2,8 +2,8 @@ use Prim.Native.Nat.{_-_}
 use mathlib.Core.Path.{_≡_}
 use lib.ListN.{length}
 use borrow.Author.Needs.{needs}
-use Rattle.cases.proofs.frames.to_words.Statement.{statement}
-use Rattle.cases.proofs.frames.to_words.Tie as tie
+use Rattle.exchange.proofs.frames.to_words.Statement.{statement}
+use Rattle.exchange.proofs.frames.to_words.Tie as tie
 
 abbrev Inv-loop : tie.InvT-loop
 Inv-loop bytes size words₀ count i₀ words i = length words ≡ length words₀

@@ -2,8 +2,8 @@ use mathlib.Core.Path.{sym}
 use native.Mathlib.Omega.{arith}
 use borrow.Table.Elements.{length-take-le}
 use borrow.Author.Needs.{needs}
-use Rattle.cases.proofs.frames.send.Statement.{statement}
-use Rattle.cases.proofs.frames.send.Tie as tie
+use Rattle.exchange.proofs.frames.send.Statement.{statement}
+use Rattle.exchange.proofs.frames.send.Tie as tie
 
 returns : tie.Need-returns
 returns c = search needs

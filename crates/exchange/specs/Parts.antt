@@ -1,6 +1,6 @@
 -- Where the buffers of a request lie.
 use Prim.Native.Nat.{ℕ, _≤_}
-use Rattle.cases.specs.declared.requests.Parts.{Parts}
+use Rattle.exchange.specs.declared.requests.Parts.{Parts}
 
 -- one after another, within a request of `total` words
 abbrev pub InOrder : Parts → ℕ → Type 0

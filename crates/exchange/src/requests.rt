@@ -3,7 +3,7 @@ use weights::Component;
 use weights::Language;
 ghost use Prim.Native.Nat.{_≤_};
 ghost use lib.ListN.{length};
-ghost use Rattle.cases.specs.Parts.{InOrder};
+ghost use Rattle.exchange.specs.Parts.{InOrder};
 
 // The places of a request's numbers; the language's follow the call's.
 pub const CALL: usize = 0;
