@@ -12,9 +12,9 @@ use Rattle.weights.specs.declared.Component.the-variants.{Dist, Width, Class, G
 use Rattle.weights.specs.Sizes.{places, arcSum}
 use Rattle.weights.specs.Languages.{SmallLimit, SmallLimits, AllAtMost}
 use Rattle.weights.specs.Words.{inRange}
-use Rattle.files.specs.declared.Listing.{Listing}
-use Rattle.files.specs.declared.Listing.the-variants.{Arcs, Attachments}
-use Rattle.files.proofs.Passing.{and-both}
+use Rattle.records.specs.declared.Listing.{Listing}
+use Rattle.records.specs.declared.Listing.the-variants.{Arcs, Attachments}
+use Rattle.fields.proofs.Passing.{and-both}
 use Rattle.encoded.specs.Encode.{Entry, Problem, SoundValues, SoundOutside, noOutside, SoundEntries, SoundProblem, Nesting, one, product, nested, bytes2, bytes4, componentBytes, languageBytes, valueBytes, outsideBytes, entryBytes, entriesBytes, listBytes, bodyBytes, encode}
 use Rattle.encoded.proofs.Entries.{length-values, sound-length}
 use Rattle.encoded.proofs.TakenLanguage.{Bytes}

@@ -7,8 +7,9 @@ use native.Mathlib.Nat.{eq-or-lt-of-le, le-of-suc-le-suc}
 use native.Mathlib.Omega.{arith}
 use lib.ListN.{length, take, drop}
 use lib.Seq.{drop-drop, drop-at, take-at}
-use Rattle.files.specs.Contents.{blocks, grid}
-use Rattle.files.proofs.Tables.{length-blocks}
+use Rattle.matrices.specs.Buffers.{blocks}
+use Rattle.files.specs.Contents.{grid}
+use Rattle.matrices.proofs.Blocks.{length-blocks}
 
 -- from an offset on stands x
 record From (l : List ℕ) (at : ℕ) (x : List ℕ) : Type 0 where

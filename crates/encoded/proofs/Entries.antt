@@ -13,11 +13,11 @@ use Rattle.weights.specs.declared.Component.{Component}
 use Rattle.weights.specs.Weights.{route}
 use Rattle.weights.specs.Languages.{componentsOf}
 use Rattle.weights.specs.Words.{words}
-use Rattle.files.specs.declared.Head.{Head}
-use Rattle.files.specs.declared.Listing.{Listing}
-use Rattle.files.specs.declared.Listing.the-variants.{Arcs, Attachments}
-use Rattle.files.specs.Bytes.{twoAt}
-use Rattle.files.specs.File.{recordLength, lengthOf, endsAt, endsCheck, valuesCheck, recordCheck, recordsCheck, listCheck, listEnd}
+use Rattle.fields.specs.declared.Head.{Head}
+use Rattle.records.specs.declared.Listing.{Listing}
+use Rattle.records.specs.declared.Listing.the-variants.{Arcs, Attachments}
+use Rattle.fields.specs.Bytes.{twoAt}
+use Rattle.records.specs.Records.{recordLength, lengthOf, endsAt, endsCheck, valuesCheck, recordCheck, recordsCheck, listCheck, listEnd}
 use Rattle.files.specs.Contents.{columns, valuesAt, outsideAt, wordsOf, recordWords, rowOf, columnOf, isAt, listedWords}
 use Rattle.encoded.specs.Encode.{Entry, SoundValues, SoundOutside, SoundEntry, SoundEntries, bytes2, valueBytes, outsideBytes, entryBytes, entriesBytes, listBytes, put}
 use Rattle.encoded.proofs.Here.{here, past, within, two-here}

@@ -13,12 +13,12 @@ use Rattle.weights.specs.declared.Language.{Language}
 use Rattle.weights.specs.Sizes.{places, productTags}
 use Rattle.weights.specs.Weights.{Sound, SoundLimit}
 use Rattle.weights.specs.Languages.{componentsOf}
-use Rattle.files.specs.declared.Found.{Found}
-use Rattle.files.specs.declared.LanguageRead.{LanguageRead}
-use Rattle.files.specs.declared.LanguageRead.the-variants.{Taken}
-use Rattle.files.specs.Bytes.{twoAt}
-use Rattle.files.specs.Nested.{noLanguage, added, nothing, withComponent, withTag, distTag, widthTag, classTag, gainTag, productTag, componentRead, after, languageAt}
-use Rattle.files.proofs.Advancing.{read-product, read-component}
+use Rattle.fields.specs.declared.Found.{Found}
+use Rattle.fields.specs.declared.LanguageRead.{LanguageRead}
+use Rattle.fields.specs.declared.LanguageRead.the-variants.{Taken}
+use Rattle.fields.specs.Bytes.{twoAt}
+use Rattle.fields.specs.Nested.{noLanguage, added, nothing, withComponent, withTag, distTag, widthTag, classTag, gainTag, productTag, componentRead, after, languageAt}
+use Rattle.fields.proofs.Advancing.{read-product, read-component}
 use Rattle.encoded.specs.Encode.{Nesting, one, product, nested, bytes2, componentBytes, languageBytes, languageWith}
 
 pub record Here (s : List ℕ) (at x : ℕ) (l : List ℕ) : Type 0 where

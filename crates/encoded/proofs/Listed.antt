@@ -9,9 +9,9 @@ use lib.Dec.{eqb}
 use Rattle.weights.specs.declared.Component.{Component}
 use Rattle.weights.specs.Weights.{route}
 use Rattle.weights.specs.Words.{words}
-use Rattle.files.specs.declared.Listing.{Listing}
+use Rattle.records.specs.declared.Listing.{Listing}
 use Rattle.files.specs.Contents.{wordsOf}
-use Rattle.files.proofs.Passing.{and-both}
+use Rattle.fields.proofs.Passing.{and-both}
 use Rattle.encoded.specs.Encode.{Entry, SoundEntries, put}
 
 abbrev entryWordsOf : Listing → Entry → List ℕ

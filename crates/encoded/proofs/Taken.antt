@@ -15,17 +15,19 @@ use Rattle.weights.specs.declared.Component.{Component}
 use Rattle.weights.specs.declared.Language.{Language}
 use Rattle.weights.specs.Sizes.{places, productTags}
 use Rattle.weights.specs.Languages.{componentsOf}
-use Rattle.files.specs.declared.Found.{Found}
-use Rattle.files.specs.declared.LanguageRead.{LanguageRead}
-use Rattle.files.specs.declared.LanguageRead.the-variants.{Taken, Refused as NotTaken}
-use Rattle.files.specs.declared.Head.{Head}
-use Rattle.files.specs.declared.HeadRead.{HeadRead}
-use Rattle.files.specs.declared.HeadRead.the-variants.{Sound, Refused as Faulty}
-use Rattle.files.specs.declared.Listing.the-variants.{Arcs, Attachments}
-use Rattle.files.specs.Bytes.{twoAt, fourAt}
-use Rattle.files.specs.Nested.{nothing, languageAt}
-use Rattle.files.specs.File.{fieldCheck, modeCheck, fieldsCheck, headFrom, headRead, listCheck, listEnd, bodyCheck, countRight, settled, withBody, fileRead}
-use Rattle.files.proofs.Passing.{both-pass, unless-passes, and-both, field-passes}
+use Rattle.fields.specs.declared.Found.{Found}
+use Rattle.fields.specs.declared.LanguageRead.{LanguageRead}
+use Rattle.fields.specs.declared.LanguageRead.the-variants.{Taken, Refused as NotTaken}
+use Rattle.fields.specs.declared.Head.{Head}
+use Rattle.fields.specs.declared.HeadRead.{HeadRead}
+use Rattle.fields.specs.declared.HeadRead.the-variants.{Sound, Refused as Faulty}
+use Rattle.records.specs.declared.Listing.the-variants.{Arcs, Attachments}
+use Rattle.fields.specs.Bytes.{twoAt, fourAt}
+use Rattle.fields.specs.Nested.{nothing, languageAt}
+use Rattle.fields.specs.Header.{fieldCheck, modeCheck, fieldsCheck, headFrom, headRead}
+use Rattle.records.specs.Records.{listCheck, listEnd, bodyCheck}
+use Rattle.files.specs.File.{countRight, settled, withBody, fileRead}
+use Rattle.fields.proofs.Passing.{both-pass, unless-passes, and-both, field-passes}
 use Rattle.files.proofs.Storing.{checked-body}
 use Rattle.encoded.specs.Encode.{Problem, SoundEntries, SoundProblem, Nesting, nested, bytes2, languageBytes, listBytes, bodyBytes, encode, languageWith, headOf}
 use Rattle.encoded.proofs.Here.{found-language, language-has, one-more-component}

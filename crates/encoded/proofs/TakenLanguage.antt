@@ -15,12 +15,12 @@ use Rattle.weights.specs.declared.Component.the-variants.{Dist, Width, Class, G
 use Rattle.weights.specs.Sizes.{productTags}
 use Rattle.weights.specs.Weights.{Sound, SoundLimit}
 use Rattle.weights.specs.Languages.{SmallLimit, SmallLimits}
-use Rattle.files.specs.declared.Found.{Found}
-use Rattle.files.specs.declared.LanguageRead.{LanguageRead}
-use Rattle.files.specs.declared.LanguageRead.the-variants.{Taken, Refused}
-use Rattle.files.specs.Bytes.{twoAt}
-use Rattle.files.specs.Nested.{withComponent, withTag, distTag, widthTag, classTag, gainTag, productTag, componentRead, after, languageFrom}
-use Rattle.files.proofs.Advancing.{by-test}
+use Rattle.fields.specs.declared.Found.{Found}
+use Rattle.fields.specs.declared.LanguageRead.{LanguageRead}
+use Rattle.fields.specs.declared.LanguageRead.the-variants.{Taken, Refused}
+use Rattle.fields.specs.Bytes.{twoAt}
+use Rattle.fields.specs.Nested.{withComponent, withTag, distTag, widthTag, classTag, gainTag, productTag, componentRead, after, languageFrom}
+use Rattle.fields.proofs.Advancing.{by-test}
 use Rattle.encoded.specs.Encode.{Nesting, one, product, nested, bytes2, componentBytes, languageBytes}
 use Rattle.encoded.proofs.Here.{products, foundAfter, found-tags}
 

@@ -15,15 +15,15 @@ use Rattle.weights.specs.declared.Component.{Component}
 use Rattle.weights.specs.Sizes.{arcSum}
 use Rattle.weights.specs.Languages.{componentsOf}
 use Rattle.weights.specs.Words.{inRange}
-use Rattle.files.specs.declared.Head.{Head}
-use Rattle.files.specs.declared.Listing.{Listing}
-use Rattle.files.specs.declared.Listing.the-variants.{Arcs, Attachments}
-use Rattle.files.specs.Bytes.{twoAt}
-use Rattle.files.specs.File.{recordLength, lengthOf, endsAt, endsCheck, valuesCheck, recordCheck, recordsCheck, listCheck, listEnd}
+use Rattle.fields.specs.declared.Head.{Head}
+use Rattle.records.specs.declared.Listing.{Listing}
+use Rattle.records.specs.declared.Listing.the-variants.{Arcs, Attachments}
+use Rattle.fields.specs.Bytes.{twoAt}
+use Rattle.records.specs.Records.{recordLength, lengthOf, endsAt, endsCheck, valuesCheck, recordCheck, recordsCheck, listCheck, listEnd}
 use Rattle.files.specs.Contents.{columns, valuesAt, outsideAt}
-use Rattle.files.specs.Parts.{InRange}
-use Rattle.files.proofs.Passing.{both-pass, unless-passes}
-use Rattle.files.proofs.Storing.{record-ends}
+use Rattle.records.specs.Parts.{InRange}
+use Rattle.fields.proofs.Passing.{both-pass, unless-passes}
+use Rattle.records.proofs.Listed.{record-ends}
 use Rattle.encoded.specs.Encode.{Entry, SoundValues, SoundOutside, noOutside, bytes2, valueBytes, outsideBytes, entryBytes, entriesBytes, listBytes}
 use Rattle.encoded.proofs.Entries.{SoundFor, AllSound, Counted}
 use Rattle.encoded.proofs.TakenLanguage.{Bytes, one-more, two-more, two-small}

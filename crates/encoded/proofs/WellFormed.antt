@@ -22,17 +22,18 @@ use Rattle.weights.specs.Languages.{componentsOf, languageCheck}
 use Rattle.weights.specs.Words.{words, inRange, good, reading, isGood}
 use Rattle.weights.proofs.Checking.{few, count-in, limits-exact}
 use Rattle.weights.proofs.Readings.{SumsUpTo, NotOnes, reads-words}
-use Rattle.files.specs.declared.Head.{Head}
-use Rattle.files.specs.declared.HeadRead.{HeadRead}
-use Rattle.files.specs.declared.HeadRead.the-variants.{Sound, Refused as Faulty}
-use Rattle.files.specs.declared.Listing.{Listing}
-use Rattle.files.specs.declared.Listing.the-variants.{Arcs, Attachments}
+use Rattle.fields.specs.declared.Head.{Head}
+use Rattle.fields.specs.declared.HeadRead.{HeadRead}
+use Rattle.fields.specs.declared.HeadRead.the-variants.{Sound, Refused as Faulty}
+use Rattle.records.specs.declared.Listing.{Listing}
+use Rattle.records.specs.declared.Listing.the-variants.{Arcs, Attachments}
 use Rattle.files.specs.declared.ReadAnswer.the-variants.{Done}
-use Rattle.files.specs.Bytes.{twoAt}
-use Rattle.files.specs.File.{lengthOf, endsAt, endsCheck, valuesCheck, recordCheck, recordsCheck, listCheck, listEnd, bodyCheck, fileRead}
+use Rattle.fields.specs.Bytes.{twoAt}
+use Rattle.records.specs.Records.{lengthOf, endsAt, endsCheck, valuesCheck, recordCheck, recordsCheck, listCheck, listEnd, bodyCheck}
+use Rattle.files.specs.File.{fileRead}
 use Rattle.files.specs.Contents.{wide, columns, sizeOf, valuesAt, recordWeight, outsideAt, recordWords, isAt, listedWords, tableWords, listOver}
 use Rattle.files.specs.Answers.{Row, rowOf, headRow, refusedRow, sized, arcsOver, mappingOver, ReadSays}
-use Rattle.files.proofs.Passing.{both-pass, and-both}
+use Rattle.fields.proofs.Passing.{both-pass, and-both}
 use Rattle.files.proofs.Storing.{listed-wide, checked-body}
 use Rattle.encoded.specs.Encode.{SoundValues, SoundOutside}
 use Rattle.encoded.proofs.Entries.{Counted}

@@ -13,18 +13,20 @@ use Rattle.refusals.specs.declared.Refusal.the-variants.{Version, Size}
 use Rattle.refusals.specs.declared.Check.the-variants.{Passed}
 use Rattle.weights.specs.declared.Component.{Component}
 use Rattle.weights.specs.Sizes.{places}
-use Rattle.files.specs.declared.Head.{Head}
-use Rattle.files.specs.declared.HeadRead.the-variants.{Sound}
-use Rattle.files.specs.declared.Listing.{Listing}
-use Rattle.files.specs.declared.Listing.the-variants.{Arcs, Attachments}
+use Rattle.fields.specs.declared.Head.{Head}
+use Rattle.fields.specs.declared.HeadRead.the-variants.{Sound}
+use Rattle.records.specs.declared.Listing.{Listing}
+use Rattle.records.specs.declared.Listing.the-variants.{Arcs, Attachments}
 use Rattle.files.specs.declared.ReadAnswer.{ReadAnswer}
 use Rattle.files.specs.declared.ReadAnswer.the-variants.{Done}
-use Rattle.files.specs.Bytes.{twoAt, fourAt}
-use Rattle.files.specs.Nested.{nothing}
-use Rattle.files.specs.File.{fieldCheck, modeCheck, fieldsCheck, headRead, lengthOf, listEnd, bodyCheck, countRight, fileRead}
+use Rattle.fields.specs.Bytes.{twoAt, fourAt}
+use Rattle.fields.specs.Nested.{nothing}
+use Rattle.fields.specs.Header.{fieldCheck, modeCheck, fieldsCheck, headRead}
+use Rattle.records.specs.Records.{lengthOf, listEnd, bodyCheck}
+use Rattle.files.specs.File.{countRight, fileRead}
 use Rattle.files.specs.Contents.{columns, sizeOf, unlisted, listedWords, tableWords}
 use Rattle.files.specs.Answers.{sized, ReadSays}
-use Rattle.files.proofs.Tables.{blocks-cong}
+use Rattle.matrices.proofs.Blocks.{blocks-cong}
 use Rattle.files.proofs.Answering.{answer-one}
 use Rattle.encoded.specs.Encode.{Entry, Problem, SoundEntries, SoundProblem, Nesting, nested, bytes2, languageBytes, entriesBytes, listBytes, bodyBytes, encode, languageWith, headOf, put, tableOf}
 use Rattle.encoded.proofs.Here.{here, past, two-here, foundAfter, language-here, found-language, language-has, one-more-component}

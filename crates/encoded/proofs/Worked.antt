@@ -6,13 +6,16 @@ use lib.ListN.{replicate}
 use Rattle.weights.specs.declared.Component.the-variants.{Dist}
 use Rattle.weights.specs.Sizes.{weightWords, entryWords, ones}
 use Rattle.weights.specs.Words.{words}
-use Rattle.files.specs.declared.Head.{Head}
-use Rattle.files.specs.declared.HeadRead.the-variants.{Sound}
-use Rattle.files.specs.declared.Listing.the-variants.{Arcs, Attachments}
-use Rattle.files.specs.Bytes.{twoAt}
-use Rattle.files.specs.Nested.{languageOf, added, componentRead, languageFrom}
-use Rattle.files.specs.File.{fieldCheck, fieldsCheck, headRead, recordLength, endsCheck, valuesCheck, recordCheck, recordsCheck, listCheck, listEnd, bodyCheck, fileRead}
-use Rattle.files.specs.Contents.{blocks, outsideAt, listedWords, tableWords}
+use Rattle.fields.specs.declared.Head.{Head}
+use Rattle.fields.specs.declared.HeadRead.the-variants.{Sound}
+use Rattle.records.specs.declared.Listing.the-variants.{Arcs, Attachments}
+use Rattle.fields.specs.Bytes.{twoAt}
+use Rattle.fields.specs.Nested.{languageOf, added, componentRead, languageFrom}
+use Rattle.fields.specs.Header.{fieldCheck, fieldsCheck, headRead}
+use Rattle.records.specs.Records.{recordLength, endsCheck, valuesCheck, recordCheck, recordsCheck, listCheck, listEnd, bodyCheck}
+use Rattle.files.specs.File.{fileRead}
+use Rattle.matrices.specs.Buffers.{blocks}
+use Rattle.files.specs.Contents.{outsideAt, listedWords, tableWords}
 
 abbrev printed : List ℕ
 printed =

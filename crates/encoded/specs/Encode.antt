@@ -13,10 +13,10 @@ use Rattle.weights.specs.Sizes.{places, arcSum}
 use Rattle.weights.specs.Weights.{route, Sound}
 use Rattle.weights.specs.Languages.{SmallLimits}
 use Rattle.weights.specs.Words.{words, inRange}
-use Rattle.files.specs.declared.Head.{Head}
-use Rattle.files.specs.declared.Listing.{Listing}
-use Rattle.files.specs.declared.Listing.the-variants.{Arcs, Attachments}
-use Rattle.files.specs.Nested.{distTag, widthTag, classTag, gainTag, productTag, languageOf}
+use Rattle.fields.specs.declared.Head.{Head}
+use Rattle.records.specs.declared.Listing.{Listing}
+use Rattle.records.specs.declared.Listing.the-variants.{Arcs, Attachments}
+use Rattle.fields.specs.Nested.{distTag, widthTag, classTag, gainTag, productTag, languageOf}
 use Rattle.files.specs.Contents.{columns, grid, wordsOf, unlisted}
 
 -- ---- problems

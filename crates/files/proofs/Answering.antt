@@ -10,15 +10,16 @@ use Rattle.refusals.specs.declared.Refusal.the-variants.{Length}
 use Rattle.refusals.specs.Told.{told}
 use Rattle.refusals.proofs.OneToOne.{told-one, told-not-done}
 use Rattle.weights.specs.Sizes.{weightWords, entryWords}
-use Rattle.files.specs.declared.Head.{Head}
-use Rattle.files.specs.declared.HeadRead.the-variants.{Sound, Refused as Faulty}
-use Rattle.files.specs.declared.Listing.the-variants.{Arcs, Attachments}
+use Rattle.fields.specs.declared.Head.{Head}
+use Rattle.fields.specs.declared.HeadRead.the-variants.{Sound, Refused as Faulty}
+use Rattle.records.specs.declared.Listing.the-variants.{Arcs, Attachments}
 use Rattle.files.specs.declared.ReadAnswer.{ReadAnswer}
 use Rattle.files.specs.declared.ReadAnswer.the-variants.{Done, Refused}
-use Rattle.files.specs.File.{listEnd, fileRead}
+use Rattle.records.specs.Records.{listEnd}
+use Rattle.files.specs.File.{fileRead}
 use Rattle.files.specs.Contents.{sizeOf, listOver}
 use Rattle.files.specs.Answers.{Row, rowOf, sized, ReadSays}
-use Rattle.files.specs.Parts.{SmallHead}
+use Rattle.fields.specs.Parts.{SmallHead}
 use Rattle.files.proofs.Tables.{product}
 
 pub size-arcs : (h : Head) → SmallHead h → sizeOf h Arcs ≤ 1024

@@ -1,75 +1,34 @@
--- Laws of the second pass: records that pass lie in the table, and storing them one after the other makes the table.
+-- Laws of the second pass: the body of a file that passes has no fault, and storing its records one after the other makes the table.
 use mathlib.Core.Path.{_≡_, refl, sym, ap, _∙_, subst}
 use mathlib.Core.List.{List, [], _∷_, _++_}
 use mathlib.Core.Bool.{Bool, true, false, cond}
-use Prim.Native.Nat.{ℕ, zero, suc, _+_, _*_, _-_, _≤_, _<_}
-use native.Mathlib.Nat.{zero-mul, suc-mul, add-zero}
+use Prim.Native.Nat.{ℕ, zero, suc, _+_, _*_, _≤_, _<_}
 use native.Mathlib.Numerals.{add-one}
 use native.Mathlib.Omega.{arith}
-use borrow.Author.Tests.{ltb-true}
-use lib.Dec.{ltb, leb}
 use lib.ListN.{length, drop, set, replicate, length-replicate, length-append}
 use lib.Seq.{sets, length-sets, drop-at}
 use Rattle.refusals.specs.declared.Refusal.{Refusal}
-use Rattle.refusals.specs.declared.Refusal.the-variants.{Bytes, NoSuch}
+use Rattle.refusals.specs.declared.Refusal.the-variants.{Bytes}
 use Rattle.refusals.specs.declared.Check.{Check}
 use Rattle.refusals.specs.declared.Check.the-variants.{Passed, Refused}
-use Rattle.refusals.specs.Checks.{unless}
 use Rattle.weights.specs.Sizes.{weightWords, ones}
-use Rattle.weights.specs.Weights.{Weight, none, route}
-use Rattle.weights.specs.Words.{filled, words}
-use Rattle.files.specs.declared.Head.{Head}
-use Rattle.files.specs.declared.HeadRead.{HeadRead}
-use Rattle.files.specs.declared.HeadRead.the-variants.{Sound, Refused as Faulty}
-use Rattle.files.specs.declared.Listing.{Listing}
-use Rattle.files.specs.declared.Listing.the-variants.{Arcs, Attachments}
-use Rattle.files.specs.declared.Ends.{Ends}
-use Rattle.files.specs.declared.Ends.the-variants.{Arc, Attachment}
-use Rattle.files.specs.Bytes.{twoAt}
-use Rattle.files.specs.File.{endsAt, endsCheck, lengthOf, recordCheck, recordsCheck, listCheck, listEnd, bodyCheck, countRight, settled, withBody, headRead, fileRead}
+use Rattle.weights.specs.Weights.{Weight}
+use Rattle.weights.specs.Words.{words}
+use Rattle.fields.specs.declared.Head.{Head}
+use Rattle.fields.specs.declared.HeadRead.{HeadRead}
+use Rattle.fields.specs.declared.HeadRead.the-variants.{Sound, Refused as Faulty}
+use Rattle.records.specs.declared.Listing.{Listing}
+use Rattle.records.specs.declared.Listing.the-variants.{Arcs, Attachments}
+use Rattle.records.specs.Records.{endsAt, lengthOf, bodyCheck}
+use Rattle.files.specs.File.{countRight, settled, withBody, fileRead}
+use Rattle.fields.specs.Header.{headRead}
 use Rattle.files.specs.Contents.{grid, wide, columns, sizeOf, recordWords, recordWeight, outsideAt, wordsOf, unlisted, rowOf, columnOf, isAt, listedWords, tableWords}
-use Rattle.files.specs.Parts.{InRange, placeOf, Listed}
-use Rattle.files.proofs.Passing.{both-pass, unless-passes}
+use Rattle.records.specs.Parts.{InRange}
+use Rattle.files.specs.Parts.{placeOf}
 use Rattle.files.proofs.Values.{sets-last}
-use Rattle.files.proofs.Tables.{block-room, grid-put, grid-same}
-
--- ---- one record
-
-pub ends-pass : (h : Head) (at : ℕ) (e : Ends) → endsCheck h at e ≡ Passed → InRange h e
-unfolding endsCheck
-ends-pass h at (Arc from to) f =
-    let g = both-pass (unless (ltb (from .0) (h .n)) (NoSuch 0 at)) _ f in
-    (ltb-true _ _ (unless-passes _ (NoSuch 0 at) (g .0)), ltb-true _ _ (unless-passes _ (NoSuch 0 (at + 1)) (g .1)))
-ends-pass h at (Attachment node to) f =
-    let g = both-pass (unless (ltb (node .0) (h .n)) (NoSuch 0 at)) _ f in
-    (ltb-true _ _ (unless-passes _ (NoSuch 0 at) (g .0)), ltb-true _ _ (unless-passes _ (NoSuch 0 (at + 1)) (g .1)))
-
-pub record-ends : (s : List ℕ) (h : Head) (list : Listing) (at low : ℕ) → recordCheck s h list at low ≡ Passed → InRange h (endsAt s list at)
-unfolding recordCheck
-record-ends s h list at low f =
-    let g = both-pass (unless (leb (at + lengthOf h list) (length s)) (Bytes 0 at)) _ f in
-    ends-pass h at (endsAt s list at) (both-pass (endsCheck h at (endsAt s list at)) _ (g .1) .0)
-
--- records that pass have their ends in the table
-pub records-listed : (s : List ℕ) (h : Head) (list : Listing) (count at low : ℕ) → recordsCheck s h list at low count ≡ Passed → Listed s h list at count
-unfolding recordsCheck
-records-listed s h list zero at low f e l = absurd (omega arith)
-records-listed s h list (suc count) at low f zero l =
-    rw (zero-mul, add-zero) (record-ends s h list at low (both-pass (recordCheck s h list at low) _ f .0))
-records-listed s h list (suc count) at low f (suc e) l =
-    let q : at + suc e * lengthOf h list ≡ at + lengthOf h list + e * lengthOf h list = omega (arith, suc-mul e (lengthOf h list)) in
-    rw q (records-listed s h list count (at + lengthOf h list) (twoAt s at + 1) (both-pass (recordCheck s h list at low) _ f .1) e (omega arith))
-
-pub list-listed : (s : List ℕ) (h : Head) (list : Listing) (at : ℕ) → listCheck s h list at ≡ Passed → Listed s h list (at + 2) (twoAt s at)
-unfolding listCheck
-list-listed s h list at f = records-listed s h list (twoAt s at) (at + 2) 0 (both-pass (unless (leb (at + 2) (length s)) (Bytes 0 at)) _ f .1)
-
-pub body-listed : (s : List ℕ) (h : Head) (at : ℕ) → bodyCheck s h at ≡ Passed
-    → Listed s h Arcs (at + 2) (twoAt s at) × Listed s h Attachments (listEnd s h Arcs at + 2) (twoAt s (listEnd s h Arcs at))
-unfolding bodyCheck
-body-listed s h at f =
-    let g = both-pass (listCheck s h Arcs at) _ f in
-    (list-listed s h Arcs at (g .0), list-listed s h Attachments (listEnd s h Arcs at) (both-pass (listCheck s h Attachments (listEnd s h Arcs at)) _ (g .1) .0))
+use Rattle.matrices.proofs.Blocks.{block-room}
+use Rattle.matrices.proofs.Entries.{length-words}
+use Rattle.files.proofs.Tables.{grid-put, grid-same}
 
 never-sound : {X : Type 0} {r : Refusal} {next : ℕ} {h : Head} → Faulty r ≡ Sound next h → X
 never-sound e = let z : _≡_ {A = ℕ} 0 1 = cc in absurd (omega arith)
@@ -92,16 +51,6 @@ checked-body s next h e = go (countRight s) (headRead s) e
     go true (Sound at k) e = body at k (bodyCheck s k at) refl e
 
 -- ---- a record in the table
-
-length-filled : (n : ℕ) (xs : List ℕ) → length (filled n xs) ≡ n
-length-filled zero xs = refl
-length-filled (suc n) [] = ap suc (length-filled n [])
-length-filled (suc n) (x ∷ xs) = ap suc (length-filled n xs)
-
-pub length-words : (w : Weight) → length (words w) ≡ weightWords
-unfolding words
-length-words none = refl
-length-words (route xs) = length-filled weightWords xs
 
 -- a word stored after those of a weight
 pub put-last : (w : Weight) (l : List ℕ) (n t : ℕ) → set (sets l n (words w)) (n + weightWords) t ≡ sets l n (words w ++ (t ∷ []))

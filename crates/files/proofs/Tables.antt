@@ -4,14 +4,16 @@ use mathlib.Core.List.{List, [], _∷_, _++_, append-assoc, append-nil}
 use mathlib.Core.Logic.{⊎-elim}
 use mathlib.Core.Bool.{Bool, true, false, cond, _&&_}
 use Prim.Native.Nat.{ℕ, zero, suc, _+_, _*_, _-_, _≤_, _<_}
-use native.Mathlib.Nat.{zero-mul, suc-mul, eq-or-lt-of-le, le-of-suc-le-suc, mul-le-mul-right, mul-le-mul, add-zero, add-suc, suc-add, zero-add}
+use native.Mathlib.Nat.{zero-mul, suc-mul, eq-or-lt-of-le, le-of-suc-le-suc, mul-le-mul, add-zero, add-suc, suc-add, zero-add}
 use native.Mathlib.Numerals.{add-one}
 use native.Mathlib.Omega.{arith}
 use borrow.Author.Tests.{eq-eqb, ne-eqb}
 use lib.Dec.{eqb}
-use lib.ListN.{length, drop, set, replicate, length-append, length-set, length-replicate, replicate-append-replicate, drop-of-length-le}
+use lib.ListN.{length, drop, set, replicate, length-set, length-replicate, replicate-append-replicate, drop-of-length-le}
 use lib.Seq.{sets, sets-eq, set-append-left, drop-cons, set-at}
-use Rattle.files.specs.Contents.{blocks, grid}
+use Rattle.matrices.specs.Buffers.{blocks}
+use Rattle.matrices.proofs.Blocks.{blocks-cong, length-blocks, block-room}
+use Rattle.files.specs.Contents.{grid}
 
 -- ---- stores in a part of a list
 
@@ -36,32 +38,15 @@ sets-whole vs l e =
 
 -- ---- blocks
 
-pub blocks-cong : (f g : ℕ → List ℕ) (n : ℕ) → ((i : ℕ) → i < n → f i ≡ g i) → blocks n f ≡ blocks n g
-unfolding blocks
-blocks-cong f g zero e = refl
-blocks-cong f g (suc n) e =
-    let hd : blocks n f ≡ blocks n g = blocks-cong f g n (λ i h. e i (omega arith)) in
-    let tl : f n ≡ g n = e n (omega arith) in
-    cc
-
-pub length-blocks : (k : ℕ) (f : ℕ → List ℕ) → ((i : ℕ) → length (f i) ≡ k) → (n : ℕ) → length (blocks n f) ≡ n * k
-unfolding blocks
-length-blocks k f sized zero = sym (zero-mul k)
-length-blocks k f sized (suc n) = length-append (blocks n f) (f n) ∙ omega (arith, length-blocks k f sized n, sized n, suc-mul n k)
-
--- block i lies within n blocks
-pub block-room : (k i n : ℕ) → i < n → i * k + k ≤ n * k
-block-room k i n h = omega (arith, suc-mul i k, mul-le-mul-right k h)
-
 abbrev stored : (ℕ → List ℕ) → ℕ → ℕ → List ℕ → ℕ → List ℕ
 stored f i o vs q = cond (eqb q i) (sets (f q) o vs) (f q)
 
 -- a store within block i
 module _ (k : ℕ) (f : ℕ → List ℕ) (sized : (i : ℕ) → length (f i) ≡ k) (i o : ℕ) (vs : List ℕ) (fits : o + length vs ≤ k) where
-  pub blocks-put : (n : ℕ) (rest : List ℕ) → i < n → sets (blocks n f ++ rest) (i * k + o) vs ≡ blocks n (stored f i o vs) ++ rest
+  pub blocks-sets : (n : ℕ) (rest : List ℕ) → i < n → sets (blocks n f ++ rest) (i * k + o) vs ≡ blocks n (stored f i o vs) ++ rest
   unfolding blocks
-  blocks-put zero rest h = absurd (omega arith)
-  blocks-put (suc n) rest h = ⊎-elim at-last (λ l. earlier l (blocks-put n (f n ++ rest) l)) (eq-or-lt-of-le (le-of-suc-le-suc h))
+  blocks-sets zero rest h = absurd (omega arith)
+  blocks-sets (suc n) rest h = ⊎-elim at-last (λ l. earlier l (blocks-sets n (f n ++ rest) l)) (eq-or-lt-of-le (le-of-suc-le-suc h))
     where
       at-last : i ≡ n → sets ((blocks n f ++ f n) ++ rest) (i * k + o) vs ≡ (blocks n (stored f i o vs) ++ stored f i o vs n) ++ rest
       at-last e =
@@ -95,7 +80,7 @@ module _ (k : ℕ) (c : ℕ → ℕ → List ℕ) (sized : (i j : ℕ) → lengt
   pub grid-put : (n m i j : ℕ) (vs rest : List ℕ) → length vs ≡ k → i < n → j < m
       → sets (grid n m c ++ rest) (i * (m * k) + j * k) vs ≡ grid n m (λ p q. cond (eqb p i && eqb q j) vs (c p q)) ++ rest
   grid-put n m i j vs rest e hi hj =
-      blocks-put (m * k) (λ p. blocks m (c p)) (λ p. length-blocks k (c p) (sized p) m) i (j * k) vs (omega (arith, block-room k j m hj)) n rest hi
+      blocks-sets (m * k) (λ p. blocks m (c p)) (λ p. length-blocks k (c p) (sized p) m) i (j * k) vs (omega (arith, block-room k j m hj)) n rest hi
       ∙ ap (λ (l : List ℕ). l ++ rest) (blocks-cong _ _ n (λ p _. row p (eqb p i)))
     where
       cell : (p q : ℕ) (t : Bool) → cond t (sets (c p q) 0 vs) (c p q) ≡ cond t vs (c p q)
@@ -107,7 +92,7 @@ module _ (k : ℕ) (c : ℕ → ℕ → List ℕ) (sized : (i j : ℕ) → lengt
       row p true =
           ap (λ (l : List ℕ). sets l (j * k) vs) (sym (append-nil (blocks m (c p))))
           ∙ ap (λ (z : ℕ). sets (blocks m (c p) ++ []) z vs) (sym (add-zero (j * k)))
-          ∙ blocks-put k (c p) (sized p) j 0 vs (omega arith) m [] hj
+          ∙ blocks-sets k (c p) (sized p) j 0 vs (omega arith) m [] hj
           ∙ append-nil (blocks m (stored (c p) j 0 vs))
           ∙ blocks-cong _ _ m (λ q _. cell p q (eqb q j))
 

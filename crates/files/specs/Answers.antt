@@ -11,13 +11,14 @@ use Rattle.refusals.specs.declared.Refusal.the-variants.{Length}
 use Rattle.refusals.specs.declared.Told.{Told}
 use Rattle.refusals.specs.Told.{told, done}
 use Rattle.weights.specs.declared.Language.{Language}
-use Rattle.files.specs.declared.HeadRead.{HeadRead}
-use Rattle.files.specs.declared.HeadRead.the-variants.{Sound, Refused as Faulty}
-use Rattle.files.specs.declared.Listing.the-variants.{Arcs, Attachments}
+use Rattle.fields.specs.declared.HeadRead.{HeadRead}
+use Rattle.fields.specs.declared.HeadRead.the-variants.{Sound, Refused as Faulty}
+use Rattle.records.specs.declared.Listing.the-variants.{Arcs, Attachments}
 use Rattle.files.specs.declared.ReadAnswer.{ReadAnswer}
 use Rattle.files.specs.declared.ReadAnswer.the-variants.{Done, Refused}
-use Rattle.files.specs.Nested.{noLanguage}
-use Rattle.files.specs.File.{listEnd, fileRead}
+use Rattle.fields.specs.Nested.{noLanguage}
+use Rattle.records.specs.Records.{listEnd}
+use Rattle.files.specs.File.{fileRead}
 use Rattle.files.specs.Contents.{listOver}
 
 -- an answer: number, which and place, then n, m, mode and the language

@@ -8,20 +8,16 @@ use lib.ListN.{drop, replicate}
 use Rattle.weights.specs.Sizes.{weightWords, entryWords, ones}
 use Rattle.weights.specs.Weights.{Weight, none, route}
 use Rattle.weights.specs.Words.{words}
-use Rattle.files.specs.declared.Head.{Head}
-use Rattle.files.specs.declared.Ends.{Ends}
-use Rattle.files.specs.declared.Ends.the-variants.{Arc, Attachment}
-use Rattle.files.specs.declared.Listing.{Listing}
-use Rattle.files.specs.declared.Listing.the-variants.{Arcs, Attachments}
-use Rattle.files.specs.Bytes.{twoAt}
-use Rattle.files.specs.File.{lengthOf, endsAt}
+use Rattle.matrices.specs.Buffers.{blocks}
+use Rattle.fields.specs.declared.Head.{Head}
+use Rattle.records.specs.declared.Ends.{Ends}
+use Rattle.records.specs.declared.Ends.the-variants.{Arc, Attachment}
+use Rattle.records.specs.declared.Listing.{Listing}
+use Rattle.records.specs.declared.Listing.the-variants.{Arcs, Attachments}
+use Rattle.fields.specs.Bytes.{twoAt}
+use Rattle.records.specs.Records.{lengthOf, endsAt}
 
 -- ---- a table in a buffer, by rows
-
--- f 0, f 1, .., f (n - 1), one after the other
-unfoldable pub blocks : ℕ → (ℕ → List ℕ) → List ℕ
-blocks zero f = []
-blocks (suc n) f = blocks n f ++ f n
 
 -- the words of a table whose entry at (i, j) has the words c i j
 abbrev pub grid : ℕ → ℕ → (ℕ → ℕ → List ℕ) → List ℕ

@@ -1,5 +1,3 @@
-pub mod Bytes
-pub mod Nested
 pub mod File
 pub mod Contents
 pub mod Answers

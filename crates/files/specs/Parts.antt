@@ -1,81 +1,12 @@
--- What the inner functions say on the way to File, Contents and Answers: offsets that fit their type, and what a pass relies on.
--- They join the code to those; nothing of it has to be believed.
-use Prim.Native.Nat.{ℕ, _+_, _*_, _≤_, _<_}
-use mathlib.Core.Path.{_≡_}
-use mathlib.Core.Bool.{cond}
-use mathlib.Core.List.{List}
-use lib.Dec.{eqb}
-use lib.ListN.{length}
-use Rattle.weights.specs.declared.Component.{Component}
-use Rattle.weights.specs.declared.Language.{Language}
-use Rattle.weights.specs.Sizes.{places, weightWords, entryWords, productTags}
-use Rattle.files.specs.declared.Found.{Found}
-use Rattle.files.specs.declared.LanguageRead.{LanguageRead}
-use Rattle.files.specs.declared.LanguageRead.the-variants.{Taken, Refused}
-use Rattle.files.specs.declared.Head.{Head}
-use Rattle.files.specs.declared.HeadRead.{HeadRead}
-use Rattle.files.specs.declared.HeadRead.the-variants.{Sound, Refused as Faulty}
-use Rattle.files.specs.declared.Ends.{Ends}
-use Rattle.files.specs.declared.Ends.the-variants.{Arc, Attachment}
-use Rattle.files.specs.declared.Listing.{Listing}
-use Rattle.files.specs.File.{lengthOf, endsAt}
+-- What the inner functions say on the way to Contents: where a record is stored.
+-- It joins the code to those; nothing of it has to be believed.
+use Prim.Native.Nat.{ℕ, _+_, _*_}
+use Rattle.weights.specs.Sizes.{weightWords, entryWords}
+use Rattle.fields.specs.declared.Head.{Head}
+use Rattle.records.specs.declared.Ends.{Ends}
+use Rattle.records.specs.declared.Ends.the-variants.{Arc, Attachment}
 
--- ---- offsets: two lists of at most 65,535 records lie below two million
-
--- an offset of a byte
-abbrev pub Near : ℕ → Type 0
-Near at = at ≤ 2000000
-
--- an offset of a record
-abbrev pub Reached : ℕ → Type 0
-Reached at = at ≤ 1800000
-
--- ---- the language
-
--- a language begins: fewer components than tags, and an offset that these bound
-pub record Begun (at : ℕ) (f : Found) : Type 0 where
-  pub near : at ≤ 8 + f .tags + f .language .count * 3
-  pub few : f .tags ≤ productTags
-  pub fewer : f .language .count ≤ f .tags
-
--- what has been read lies after the place where it began and within the file, and holds one component more than tags
-pub record Onward (s : List ℕ) (at : ℕ) (f : Found) (next : ℕ) (g : Found) : Type 0 where
-  pub onward : at < next
-  pub inside : next ≤ length s
-  pub grown : f .tags ≤ g .tags
-  pub few : g .tags ≤ productTags
-  pub counted : g .language .count + f .tags ≡ f .language .count + 1 + g .tags
-  pub near : next + f .tags + f .language .count * 3 ≤ at + g .tags + g .language .count * 3
-
-abbrev pub Advances : List ℕ → ℕ → Found → LanguageRead → Type 0
-Advances s at f (Taken next g) = Onward s at f next g
-Advances s at f (Refused r) = Unit {0}
-
-abbrev pub componentAt : Language → ℕ → Component
-componentAt l k = cond (eqb k 0) (l .first) (cond (eqb k 1) (l .second) (cond (eqb k 2) (l .third) (l .fourth)))
-
--- ---- the head
-
-pub record SmallHead (h : Head) : Type 0 where
-  pub nodes : h .n ≤ 16
-  pub destinations : h .m ≤ 32
-  pub components : h .language .count ≤ places
-
--- the arcs begin within the file, at most 23 bytes from its start
-abbrev pub SmallHeadRead : List ℕ → HeadRead → Type 0
-SmallHeadRead s (Sound next h) = SmallHead h × (next ≤ length s) × (next ≤ 23)
-SmallHeadRead s (Faulty r) = Unit {0}
-
--- ---- the second pass
-
-abbrev pub InRange : Head → Ends → Type 0
-InRange h (Arc from to) = (from .0 < h .n) × (to .0 < h .n)
-InRange h (Attachment node to) = (node .0 < h .n) × (to .0 < h .m)
-
+-- the place of a record's first word
 abbrev pub placeOf : Head → Ends → ℕ
 placeOf h (Arc from to) = from .0 * (h .n * weightWords) + to .0 * weightWords
 placeOf h (Attachment node to) = node .0 * (h .m * entryWords) + to .0 * entryWords
-
--- every record has its ends in the table
-abbrev pub Listed : List ℕ → Head → Listing → ℕ → ℕ → Type 0
-Listed s h list first count = (e : ℕ) → e < count → InRange h (endsAt s list (first + e * lengthOf h list))

@@ -1,8 +1,8 @@
 // The reader: the lengths of the two buffers first, then the file; it writes only what has passed every check.
-use super::HeadRead;
 use super::ReadAnswer;
-use super::lists::check_file;
+use super::checking::check_file;
 use super::writing::write;
+use fields::HeadRead;
 use refusals::Refusal;
 ghost use Rattle.files.specs.Answers.{ReadSays};
 

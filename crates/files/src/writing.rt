@@ -1,11 +1,11 @@
 // The second pass: a file without a fault is written into the two buffers.
-use super::Ends;
-use super::Head;
-use super::Listing;
-use super::bytes::two;
-use super::lists::list_end;
-use super::records::ends_at;
-use super::records::record_length;
+use fields::Head;
+use fields::bytes::two;
+use records::Ends;
+use records::Listing;
+use records::checks::ends_at;
+use records::checks::record_length;
+use records::lists::list_end;
 use refusals::Check;
 use weights::ENTRY_WORDS;
 use weights::ONES;
@@ -21,10 +21,12 @@ ghost use lib.Seq.{sets};
 ghost use Rattle.weights.specs.Sizes.{places, ones};
 ghost use Rattle.weights.specs.Languages.{weightOf};
 ghost use Rattle.weights.specs.Words.{words};
-ghost use Rattle.files.specs.Bytes.{twoAt};
-ghost use Rattle.files.specs.File.{endsAt, listEnd, bodyCheck};
+ghost use Rattle.fields.specs.Bytes.{twoAt};
+ghost use Rattle.records.specs.Records.{endsAt, listEnd, bodyCheck};
 ghost use Rattle.files.specs.Contents.{wide, sizeOf, recordWeight, outsideAt, wordsOf, recordWords, tableWords, listOver};
-ghost use Rattle.files.specs.Parts.{Near, Reached, SmallHead, InRange, placeOf, Listed};
+ghost use Rattle.fields.specs.Parts.{Near, Reached, SmallHead};
+ghost use Rattle.records.specs.Parts.{InRange, Listed};
+ghost use Rattle.files.specs.Parts.{placeOf};
 
 // Value k of a record, at an offset; 0 where the language has no such component.
 fn value(file: &[u8], count: u32, k: u32, at: u32) -> u32

@@ -3,7 +3,7 @@ use mathlib.Core.Path.{_≡_}
 use Prim.Native.Nat.{_+_, _*_, _-_, _≤_}
 use native.Mathlib.Nat.{zero-mul, add-zero}
 use denote.Ref.{now}
-use Rattle.files.specs.File.{lengthOf}
+use Rattle.records.specs.Records.{lengthOf}
 use Rattle.files.proofs.Tables.{product}
 use Rattle.files.proofs.Storing.{Stored, stored-none, stored-more, stored-all}
 use borrow.Author.Needs.{needs}

@@ -1,6 +1,6 @@
 use native.Mathlib.Omega.{arith}
 use denote.Ref.{now}
-use Rattle.files.proofs.Storing.{body-listed}
+use Rattle.records.proofs.Listed.{body-listed}
 use Rattle.files.proofs.Answering.{size-arcs, size-attachments}
 use borrow.Author.Needs.{needs}
 use Rattle.files.proofs.writing.write.Statement.{statement}

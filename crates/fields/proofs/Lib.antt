@@ -1,0 +1,3 @@
+pub mod Passing
+pub mod Advancing
+pub mod Fuel

@@ -1,0 +1,4 @@
+pub mod Bytes
+pub mod Nested
+pub mod Header
+pub mod Parts
