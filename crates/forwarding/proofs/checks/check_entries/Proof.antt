@@ -1,0 +1,50 @@
+use mathlib.Core.Path.{sym, _∙_}
+use Rattle.routes.proofs.Order.{stops, goes-on, last}
+use borrow.Author.Needs.{needs}
+use Rattle.forwarding.proofs.checks.check_entries.Statement.{statement}
+use Rattle.forwarding.proofs.checks.check_entries.Tie as tie
+
+first-malformed-requires : tie.Need-first-malformed-requires
+first-malformed-requires c κs = search needs
+
+enum-known-x : tie.Need-enum-known-x
+enum-known-x c = search needs
+
+enum-told : tie.Need-enum-told
+enum-told c = search needs
+
+first-malformed-requires-2 : tie.Need-first-malformed-requires-2
+first-malformed-requires-2 c κs = search needs
+
+enum-known-x-2 : tie.Need-enum-known-x-2
+enum-known-x-2 c = search needs
+
+enum-told-2 : tie.Need-enum-told-2
+enum-told-2 c = search needs
+
+first-malformed-entry-requires : tie.Need-first-malformed-entry-requires
+first-malformed-entry-requires c κs = search needs
+
+returns : tie.Need-returns
+returns c = sym (stops _ (sym (c .before .before .before .first-malformed .ensures) ∙ c .before .x .given .1))
+
+returns-2 : tie.Need-returns-2
+returns-2 c = sym (goes-on (sym (c .before .before .before .before .before .before .first-malformed .ensures) ∙ c .before .before .before .before .enum-told .given .1) (stops _ (sym (c .before .before .before .first-malformed2 .ensures) ∙ c .before .x2 .given .1)))
+
+returns-3 : tie.Need-returns-3
+returns-3 c = sym (goes-on (sym (c .before .before .before .before .before .before .first-malformed .ensures) ∙ c .before .before .before .before .enum-told .given .1) (goes-on (sym (c .before .before .before .first-malformed2 .ensures) ∙ c .before .enum-told2 .given .1) (last (c .first-malformed-entry .ensures))))
+
+pub check-entries-spec : {M : Type 1} → statement M
+check-entries-spec =
+    tie.close
+    (tie.spec
+    first-malformed-requires
+    enum-known-x
+    enum-told
+    first-malformed-requires-2
+    enum-known-x-2
+    enum-told-2
+    first-malformed-entry-requires
+    returns
+    returns-2
+    returns-3)

@@ -1,0 +1,15 @@
+// The call that forwards: it applies a routing matrix to a mapping table. It takes every input.
+pub mod checks;
+pub mod forward;
+
+use refusals::Refusal;
+use tables::Mode;
+use weights::Places;
+
+pub const MOST_DESTINATIONS: u32 = 32;
+
+// What the checks of the sizes and the language find: the language in its places and the mode, or a refusal.
+pub enum Arguments {
+    Given { places: Places, mode: Mode },
+    Refused(Refusal),
+}
