@@ -82,7 +82,7 @@ module _ (l : Language) (n m number : ℕ) (a r s f : List ℕ) where
 
   -- ---- the call
 
-  forward-order : forwardCheck l n m number a r s f ≡ orElse (firstOf (argumentsChecks l n m number [])) (firstOf (buffersChecks (modeMeant l m number) cs n m a r s f))
+  pub forward-order : forwardCheck l n m number a r s f ≡ orElse (firstOf (argumentsChecks l n m number [])) (firstOf (buffersChecks (modeMeant l m number) cs n m a r s f))
   forward-order = group (nodesCheck n ∷ destinationsCheck m ∷ modeCheck cs m number ∷ countCheck l ∷ limitCheck l ∷ []) (buffersChecks (modeMeant l m number) cs n m a r s f)
 
   refused : (x : Refusal) → forwardCheck l n m number a r s f ≡ Refused x → (answerTold (NotDone x) ≡ checkTold (forwardCheck l n m number a r s f)) × (f ≡ forwardLeft l n m number a r s f)

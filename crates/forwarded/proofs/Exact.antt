@@ -1,0 +1,272 @@
+-- Each refusal of forward exactly in its case: a check's refusal where the check gives it and all before it pass; law C's where the
+-- mode needs the law and it fails over all weights; 12 where R does not satisfy the routing equation, and so never where R is the best.
+use Prim.Native.Nat.{ℕ, suc, _*_}
+use mathlib.Core.Path.{_≡_, refl, sym, ap, subst, _∙_}
+use mathlib.Core.Bool.{Bool, true, false, not, cond, _&&_, _||_}
+use mathlib.Core.List.{List, [], _∷_, _++_}
+use mathlib.Core.Logic.{_⊎_, inl, inr, _↔_}
+use native.Mathlib.Omega.{arith}
+use lib.Dec.{leb, eqb}
+use lib.ListN.{length}
+use Rattle.refusals.specs.declared.Refusal.{Refusal}
+use Rattle.refusals.specs.declared.Refusal.the-variants.{Size, BadComponent, BadCount, Length, Law, Equation, Value}
+use Rattle.refusals.specs.declared.Check.{Check}
+use Rattle.refusals.specs.declared.Check.the-variants.{Passed, Refused}
+use Rattle.refusals.specs.declared.Told.{Told}
+use Rattle.refusals.specs.Told.{row, told, done}
+use Rattle.refusals.specs.Checks.{unless, firstOf, checkTold, Pass, Gives}
+use Rattle.refusals.proofs.OneToOne.{told-one, told-not-done}
+use Rattle.refusals.proofs.First.{passed-not, first-exactly, pass-first, first-passes}
+use Rattle.algebra.specs.Step.{Solves}
+use Rattle.weights.specs.declared.Component.{Component}
+use Rattle.weights.specs.declared.Language.{Language}
+use Rattle.weights.specs.Sizes.{weightWords, entryWords, arcSum, matrixSum}
+use Rattle.weights.specs.Weights.{Sound, language}
+use Rattle.weights.specs.Laws.{LawC, testD, testU, testC}
+use Rattle.weights.specs.Languages.{componentsOf, countCheck, limitCheck, soundLimit, limitsFrom}
+use Rattle.weights.proofs.Checking.{few, check-sound}
+use Rattle.weights.proofs.Decided.{C-exact}
+use Rattle.weights.proofs.Ordering.{clash}
+use Rattle.matrices.specs.Buffers.{wellFormed, firstMalformed}
+use Rattle.matrices.specs.Steps.{solves}
+use Rattle.matrices.proofs.Every.{solves-exactly}
+use Rattle.matrices.proofs.Malformed.{refuses-first}
+use Rattle.tables.specs.declared.Mode.{Mode}
+use Rattle.tables.specs.declared.Chosen.{Chosen}
+use Rattle.tables.specs.declared.Chosen.the-variants.{Fits, Unfit}
+use Rattle.tables.specs.Entries.{modeFor, needsC}
+use Rattle.tables.specs.Tables.{wellFormedEntry}
+use Rattle.tables.proofs.Forwarded.{best-solves}
+use Rattle.routes.specs.Checks.{nodesCheck, lengthCheck, lawDCheck, lawUCheck, arcsCheck, routesCheck}
+use Rattle.routes.specs.Calls.{matrixOf}
+use Rattle.routes.proofs.Bridge.{entry-valid}
+use Rattle.routes.proofs.Order.{goes-on, nodes-passed, length-passed, unless-passes}
+use Rattle.matrices.proofs.Malformed.{check-formed}
+use Rattle.forwarding.specs.Checks.{destinationsCheck, chosenCheck, modeCheck, tableLengthCheck, lawCCheck, mappingCheck, solvesCheck}
+use Rattle.forwarding.specs.Calls.{modeMeant, forwardChecks, forwardCheck}
+use Rattle.forwarded.specs.Table.{HoldsBest}
+
+-- ---- the call refuses x exactly when one of its checks gives x and all before it pass
+
+told-check : (c : Check) (x : Refusal) → (checkTold c ≡ told x) ↔ (c ≡ Refused x)
+told-check Passed x = (λ e. absurd (told-not-done x (sym e)), λ e. absurd (passed-not x e))
+told-check (Refused y) x = (λ e. ap Refused (told-one y x e), λ e. ap checkTold e)
+
+pub forward-refuses : (l : Language) (n m number : ℕ) (a r s f : List ℕ) (x : Refusal) → (checkTold (forwardCheck l n m number a r s f) ≡ told x) ↔ Gives (forwardChecks l n m number a r s f) x
+forward-refuses l n m number a r s f x =
+    let checks = forwardChecks l n m number a r s f in
+    (λ e. first-exactly checks x .0 (told-check (firstOf checks) x .0 e), λ g. told-check (firstOf checks) x .1 (first-exactly checks x .1 g))
+
+-- ---- a refusal that one check alone can give
+
+-- no check of the list gives x
+abbrev Never : Refusal → List Check → Type 0
+Never x [] = Unit {0}
+Never x (c ∷ cs) = (c ≡ Refused x → ⊥) × Never x cs
+
+never-first : (x : Refusal) (cs : List Check) → Never x cs → firstOf cs ≡ Refused x → ⊥
+never-first x [] h e = passed-not x e
+never-first x (Passed ∷ cs) h e = never-first x cs (h .1) e
+never-first x (Refused y ∷ cs) h e = h .0 e
+
+-- .. but c: then it is given exactly where c gives it and all before c pass
+only-here : (x : Refusal) (before : List Check) (c : Check) (after : List Check) → Never x before → Never x after → (firstOf (before ++ c ∷ after) ≡ Refused x) ↔ (Pass before × (c ≡ Refused x))
+only-here x before c after u v = (there before u, back before)
+  where
+    here : (k : Check) → firstOf (k ∷ after) ≡ Refused x → k ≡ Refused x
+    here Passed e = absurd (never-first x after v e)
+    here (Refused y) e = e
+
+    there : (cs : List Check) → Never x cs → firstOf (cs ++ c ∷ after) ≡ Refused x → Pass cs × (c ≡ Refused x)
+    there [] h e = (tt, here c e)
+    there (Passed ∷ cs) h e = let g = there cs (h .1) e in ((refl, g .0), g .1)
+    there (Refused y ∷ cs) h e = absurd (h .0 e)
+
+    back : (cs : List Check) → Pass cs × (c ≡ Refused x) → firstOf (cs ++ c ∷ after) ≡ Refused x
+    back [] (p, e) = rw e
+    back (k ∷ cs) (p, e) = rw (p .0) (back cs (p .1, e))
+
+-- ---- the number that a check gives
+
+-- the check refuses with this number alone
+abbrev Numbered : ℕ → Check → Type 0
+Numbered k c = (x : Refusal) → c ≡ Refused x → told x .number ≡ k
+
+refused-one : (x y : Refusal) → Refused x ≡ Refused y → x ≡ y
+refused-one x y e = cc
+
+unless-numbered : (b : Bool) (x : Refusal) → Numbered (told x .number) (unless b x)
+unless-numbered true x y e = absurd (passed-not y e)
+unless-numbered false x y e = ap (λ (z : Refusal). told z .number) (sym (refused-one x y e))
+
+chosen-numbered : (c : Chosen) → Numbered 3 (chosenCheck c)
+chosen-numbered (Fits mode) y e = absurd (passed-not y e)
+chosen-numbered Unfit y e = ap (λ (z : Refusal). told z .number) (sym (refused-one (Size 3 0) y e))
+
+limits-numbered : (i : ℕ) (cs : List Component) → Numbered 4 (limitsFrom i cs)
+limits-numbered i [] y e = absurd (passed-not y e)
+limits-numbered i (c ∷ cs) y e = go (soundLimit c) e (limits-numbered (suc i) cs y)
+  where
+    go : (b : Bool) → cond b (limitsFrom (suc i) cs) (Refused (BadComponent 0 i)) ≡ Refused y → (limitsFrom (suc i) cs ≡ Refused y → told y .number ≡ 4) → told y .number ≡ 4
+    go true q ih = ih q
+    go false q ih = ap (λ (z : Refusal). told z .number) (sym (refused-one (BadComponent 0 i) y q))
+
+malformed-numbered : (test : ℕ → Bool) (size which c : ℕ) → Numbered 6 (firstMalformed test size which 0 c)
+malformed-numbered test size which c y e = ap (λ (z : Refusal). told z .number) (refuses-first test size which c 0 y e .told)
+
+-- another number, or another which
+other : {k : ℕ} {c : Check} (x : Refusal) → Numbered k c → (told x .number ≡ k → ⊥) → c ≡ Refused x → ⊥
+other x h d e = d (h x e)
+
+unless-other : (b : Bool) (x y : Refusal) → (x ≡ y → ⊥) → unless b x ≡ Refused y → ⊥
+unless-other true x y d e = passed-not y e
+unless-other false x y d e = d (refused-one x y e)
+
+which-apart : (i j : ℕ) → (i ≡ j → ⊥) → Law i 0 ≡ Law j 0 → ⊥
+which-apart i j d e = d (ap (λ (z : Refusal). told z .which) e)
+
+-- ---- the checks before law C's, and before 12
+
+module _ (l : Language) (n m number : ℕ) (a r s f : List ℕ) where
+  abbrev cs : List Component
+  cs = componentsOf l
+
+  abbrev mode : Mode
+  mode = modeMeant l m number
+
+  abbrev pub beforeLawC : List Check
+  beforeLawC = nodesCheck n ∷ destinationsCheck m ∷ modeCheck cs m number ∷ countCheck l ∷ limitCheck l ∷ lengthCheck 1 n a ∷ lengthCheck 2 n r ∷ tableLengthCheck 3 n m s ∷ tableLengthCheck 4 n m f ∷ lawDCheck cs ∷ lawUCheck cs ∷ []
+
+  abbrev pub beforeEquation : List Check
+  beforeEquation = beforeLawC ++ lawCCheck mode cs ∷ arcsCheck cs n a ∷ routesCheck cs n r ∷ mappingCheck mode cs n m s ∷ []
+
+  -- the checks of sizes, language and lengths, and then others, never give a refusal with another number
+  sizes-never : (x : Refusal) → (told x .number ≡ 3 → ⊥) → (told x .number ≡ 5 → ⊥) → (told x .number ≡ 4 → ⊥) → (told x .number ≡ 9 → ⊥) → (rest : List Check) → Never x rest
+      → Never x (nodesCheck n ∷ destinationsCheck m ∷ modeCheck cs m number ∷ countCheck l ∷ limitCheck l ∷ lengthCheck 1 n a ∷ lengthCheck 2 n r ∷ tableLengthCheck 3 n m s ∷ tableLengthCheck 4 n m f ∷ rest)
+  sizes-never x d3 d5 d4 d9 rest h = (
+    other x (unless-numbered (leb 1 n && leb n 16) (Size 1 0)) d3,
+    (
+      other x (unless-numbered (leb m 32) (Size 2 0)) d3,
+      (
+        other x (chosen-numbered (modeFor cs m number)) d3,
+        (
+          other x (unless-numbered (leb 1 (l .count) && leb (l .count) 4) (BadCount 0 0)) d5,
+          (
+            other x (limits-numbered 0 cs) d4,
+            (
+              other x (unless-numbered (eqb (length a) (n * (n * weightWords))) (Length 1 0)) d9,
+              (
+                other x (unless-numbered (eqb (length r) (n * (n * weightWords))) (Length 2 0)) d9,
+                (
+                  other x (unless-numbered (eqb (length s) (n * (m * entryWords))) (Length 3 0)) d9,
+                  (other x (unless-numbered (eqb (length f) (n * (m * entryWords))) (Length 4 0)) d9, h),
+                ),
+              ),
+            ),
+          ),
+        ),
+      ),
+    ),
+  )
+
+  entries-never : (x : Refusal) → (told x .number ≡ 6 → ⊥) → (rest : List Check) → Never x rest → Never x (arcsCheck cs n a ∷ routesCheck cs n r ∷ mappingCheck mode cs n m s ∷ rest)
+  entries-never x d6 rest h = (
+    other x (malformed-numbered (wellFormed arcSum cs a) weightWords 1 (n * n)) d6,
+    (
+      other x (malformed-numbered (wellFormed matrixSum cs r) weightWords 2 (n * n)) d6,
+      (other x (malformed-numbered (wellFormedEntry mode arcSum cs s) entryWords 3 (n * m)) d6, h),
+    ),
+  )
+
+  -- the language's limits are sound once 5 and 4 pass
+  before-sound : Pass beforeLawC → Sound cs
+  before-sound p = check-sound l (pass-first (countCheck l ∷ limitCheck l ∷ []) (p .1 .1 .1 .0, (p .1 .1 .1 .1 .0, tt)))
+
+  -- ---- 10, which 3
+
+  law-C-missing : Sound cs → (lawCCheck mode cs ≡ Refused (Law 3 0)) ↔ ((needsC mode ≡ true) × (LawC cs → ⊥))
+  law-C-missing sound = (λ e. there (needsC mode) refl (testC cs) refl e, back)
+    where
+      there : (b : Bool) → needsC mode ≡ b → (c : Bool) → testC cs ≡ c → unless (not b || c) (Law 3 0) ≡ Refused (Law 3 0) → (needsC mode ≡ true) × (LawC cs → ⊥)
+      there true p true q e = absurd (passed-not (Law 3 0) e)
+      there true p false q e = (p, λ law. clash (testC cs) (C-exact cs sound .1 law) q)
+      there false p c q e = absurd (passed-not (Law 3 0) e)
+
+      refuse : (b : Bool) → testC cs ≡ b → needsC mode ≡ true → (LawC cs → ⊥) → lawCCheck mode cs ≡ Refused (Law 3 0)
+      refuse true q p g = absurd (g (C-exact cs sound .0 q))
+      refuse false q p g = rw (p, q)
+
+      back : (needsC mode ≡ true) × (LawC cs → ⊥) → lawCCheck mode cs ≡ Refused (Law 3 0)
+      back (p, g) = refuse (testC cs) refl p g
+
+  -- 10 3 0 exactly where all checks before it pass, the mode needs law C, and law C fails over all weights.
+  pub law-C-refused : (checkTold (forwardCheck l n m number a r s f) ≡ row 10 3 0) ↔ (Pass beforeLawC × (needsC mode ≡ true) × (LawC cs → ⊥))
+  law-C-refused =
+      let exactly = only-here (Law 3 0) beforeLawC (lawCCheck mode cs) (arcsCheck cs n a ∷ routesCheck cs n r ∷ mappingCheck mode cs n m s ∷ solvesCheck cs n a r ∷ []) before after in (
+        λ e. let g = exactly .0 (told-check (forwardCheck l n m number a r s f) (Law 3 0) .0 e) in let h = law-C-missing (before-sound (g .0)) .0 (g .1) in (g .0, h .0, h .1),
+        λ (p, h, g). told-check (forwardCheck l n m number a r s f) (Law 3 0) .1 (exactly .1 (p, law-C-missing (before-sound p) .1 (h, g))),
+      )
+    where
+      before : Never (Law 3 0) beforeLawC
+      before = sizes-never (Law 3 0) (λ e. omega arith) (λ e. omega arith) (λ e. omega arith) (λ e. omega arith) (lawDCheck cs ∷ lawUCheck cs ∷ [])
+          (unless-other (testD cs) (Law 1 0) (Law 3 0) (which-apart 1 3 (λ e. omega arith)), (unless-other (testU cs) (Law 2 0) (Law 3 0) (which-apart 2 3 (λ e. omega arith)), tt))
+
+      after : Never (Law 3 0) (arcsCheck cs n a ∷ routesCheck cs n r ∷ mappingCheck mode cs n m s ∷ solvesCheck cs n a r ∷ [])
+      after = entries-never (Law 3 0) (λ e. omega arith) (solvesCheck cs n a r ∷ []) (other (Law 3 0) (unless-numbered (solves cs n (matrixOf l n a) (matrixOf l n r)) (Equation 2 0)) (λ e. omega arith), tt)
+
+  -- ---- 12
+
+  solves-missing : (solvesCheck cs n a r ≡ Refused (Equation 2 0)) ↔ (Solves (language cs) n (matrixOf l n a) (matrixOf l n r) → ⊥)
+  solves-missing = (λ e. there (solves cs n (matrixOf l n a) (matrixOf l n r)) refl e, back (solves cs n (matrixOf l n a) (matrixOf l n r)) refl)
+    where
+      there : (b : Bool) → solves cs n (matrixOf l n a) (matrixOf l n r) ≡ b → unless b (Equation 2 0) ≡ Refused (Equation 2 0) → Solves (language cs) n (matrixOf l n a) (matrixOf l n r) → ⊥
+      there true q e g = passed-not (Equation 2 0) e
+      there false q e g = clash (solves cs n (matrixOf l n a) (matrixOf l n r)) (solves-exactly cs n (matrixOf l n a) (matrixOf l n r) .1 g) q
+
+      back : (b : Bool) → solves cs n (matrixOf l n a) (matrixOf l n r) ≡ b → (Solves (language cs) n (matrixOf l n a) (matrixOf l n r) → ⊥) → solvesCheck cs n a r ≡ Refused (Equation 2 0)
+      back true q g = absurd (g (solves-exactly cs n (matrixOf l n a) (matrixOf l n r) .0 q))
+      back false q g = ap (λ (b : Bool). unless b (Equation 2 0)) q
+
+  -- 12 2 0 exactly where all other checks pass and R does not satisfy R = (A join R) best fresh.
+  pub equation-refused : (checkTold (forwardCheck l n m number a r s f) ≡ row 12 2 0) ↔ (Pass beforeEquation × (Solves (language cs) n (matrixOf l n a) (matrixOf l n r) → ⊥))
+  equation-refused =
+      let exactly = only-here (Equation 2 0) beforeEquation (solvesCheck cs n a r) [] before tt in (
+        λ e. let g = exactly .0 (told-check (forwardCheck l n m number a r s f) (Equation 2 0) .0 e) in (g .0, solves-missing .0 (g .1)),
+        λ (p, h). told-check (forwardCheck l n m number a r s f) (Equation 2 0) .1 (exactly .1 (p, solves-missing .1 h)),
+      )
+    where
+      before : Never (Equation 2 0) beforeEquation
+      before = sizes-never (Equation 2 0) (λ e. omega arith) (λ e. omega arith) (λ e. omega arith) (λ e. omega arith) (lawDCheck cs ∷ lawUCheck cs ∷ lawCCheck mode cs ∷ arcsCheck cs n a ∷ routesCheck cs n r ∷ mappingCheck mode cs n m s ∷ []) (
+        other (Equation 2 0) (unless-numbered (testD cs) (Law 1 0)) (λ e. omega arith),
+        (
+          other (Equation 2 0) (unless-numbered (testU cs) (Law 2 0)) (λ e. omega arith),
+          (
+            other (Equation 2 0) (unless-numbered (not (needsC mode) || testC cs) (Law 3 0)) (λ e. omega arith),
+            entries-never (Equation 2 0) (λ e. omega arith) [] tt,
+          ),
+        ),
+      )
+
+  -- Where R holds the best weights and all other checks pass, the call is done ..
+  pub best-done : HoldsBest l n m number a r s f → Pass beforeEquation → forwardCheck l n m number a r s f ≡ Passed
+  best-done b p = pass-first (forwardChecks l n m number a r s f) (all beforeEquation (solvesCheck cs n a r) p (ap (λ (x : Bool). unless x (Equation 2 0)) solved))
+    where
+      all : (cs : List Check) (c : Check) → Pass cs → c ≡ Passed → Pass (cs ++ c ∷ [])
+      all [] c h e = (e, tt)
+      all (k ∷ cs) c h e = (h .0, all cs c (h .1) e)
+
+      laws : Pass (lawDCheck cs ∷ lawUCheck cs ∷ lawCCheck mode cs ∷ arcsCheck cs n a ∷ routesCheck cs n r ∷ mappingCheck mode cs n m s ∷ [])
+      laws = p .1 .1 .1 .1 .1 .1 .1 .1 .1
+
+      solved : solves cs n (matrixOf l n a) (matrixOf l n r) ≡ true
+      solved = best-solves cs (check-sound l (pass-first (countCheck l ∷ limitCheck l ∷ []) (p .1 .1 .1 .0, (p .1 .1 .1 .1 .0, tt)))) (unless-passes (testD cs) (Law 1 0) (laws .0)) (unless-passes (testU cs) (Law 2 0) (laws .1 .0)) n (matrixOf l n a) (matrixOf l n r)
+          (entry-valid arcSum cs n a (few l) (check-formed 1 arcSum cs n a (length-passed 1 n a (nodes-passed n (p .0) .1) (p .1 .1 .1 .1 .1 .0)) (laws .1 .1 .1 .0))) b
+
+  -- .. and so 12 is never given.
+  pub best-never-twelve : HoldsBest l n m number a r s f → checkTold (forwardCheck l n m number a r s f) ≡ row 12 2 0 → ⊥
+  best-never-twelve b e = let g = equation-refused .0 e in told-not-done (Equation 2 0) (sym e ∙ ap checkTold (best-done b (g .0)))
+
+  -- ---- 3, which 3: m 0 is told as a mode that does not fit
+
+  pub no-destinations : nodesCheck n ≡ Passed → checkTold (forwardCheck l n 0 number a r s f) ≡ row 3 3 0
+  no-destinations e = ap checkTold (goes-on {d = Refused (Size 3 0)} e refl)
