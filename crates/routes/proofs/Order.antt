@@ -4,11 +4,11 @@ use mathlib.Core.Path.{_≡_, refl, sym, ap, ap₂, subst, _∙_}
 use mathlib.Core.Bool.{Bool, true, false, cond, _&&_, and-false}
 use mathlib.Core.List.{List, [], _∷_, _++_}
 use native.Mathlib.Omega.{arith}
-use lib.Dec.{leb, eqb}
+use lib.Dec.{leb, ltb, eqb}
 use lib.ListN.{length}
-use borrow.Author.Tests.{leb-true, lt-leb, le-leb, eqb-true, eq-eqb, ne-eqb}
+use borrow.Author.Tests.{leb-true, lt-leb, le-leb, ltb-true, lt-ltb, le-ltb, eqb-true, eq-eqb, ne-eqb}
 use Rattle.refusals.specs.declared.Refusal.{Refusal}
-use Rattle.refusals.specs.declared.Refusal.the-variants.{Size, Length, Law}
+use Rattle.refusals.specs.declared.Refusal.the-variants.{Size, NoSuch, Length, Law}
 use Rattle.refusals.specs.declared.Check.{Check}
 use Rattle.refusals.specs.declared.Check.the-variants.{Passed, Refused}
 use Rattle.refusals.specs.Checks.{unless, orElse, firstOf}
@@ -25,7 +25,7 @@ use Rattle.weights.proofs.Checking.{few, check-sound}
 use Rattle.matrices.specs.Buffers.{Square, Formed}
 use Rattle.matrices.specs.Steps.{Given}
 use Rattle.matrices.proofs.Malformed.{check-formed}
-use Rattle.routes.specs.Checks.{nodesCheck, lengthCheck, lawDCheck, lawUCheck, arcsCheck, routesCheck, mostNodes}
+use Rattle.routes.specs.Checks.{nodesCheck, lengthCheck, lawDCheck, lawUCheck, arcsCheck, routesCheck, nodeCheck, mostNodes}
 use Rattle.routes.specs.Calls.{freshCheck, matricesChecks}
 use Rattle.routes.specs.Ready.{Passing}
 use Rattle.routes.proofs.Bridge.{check-pad}
@@ -49,7 +49,7 @@ last {c} e = whole c ∙ sym e
     whole (Refused r) = refl
 
 -- two checks are one
-pair : (c d e : Check) → orElse c (orElse d e) ≡ orElse (firstOf (c ∷ d ∷ [])) e
+pub pair : (c d e : Check) → orElse c (orElse d e) ≡ orElse (firstOf (c ∷ d ∷ [])) e
 pair (Refused r) d e = refl
 pair Passed (Refused r) e = refl
 pair Passed Passed e = refl
@@ -124,6 +124,15 @@ length-passed which n s h e = record { few = h; long = eqb-true (length s) (n * 
 
 pub laws-passed : (cs : List Component) → firstOf (lawDCheck cs ∷ lawUCheck cs ∷ []) ≡ Passed → (testD cs ≡ true) × (testU cs ≡ true)
 laws-passed cs e = let h = passed-both (lawDCheck cs) (lawUCheck cs) e in (unless-passes (testD cs) (Law 1 0) (h .0), unless-passes (testU cs) (Law 2 0) (h .1))
+
+pub node-in : (place n i : ℕ) → i < n → Passed ≡ nodeCheck place n i
+node-in place n i h = rw (lt-ltb i n h)
+
+pub node-out : (place n i : ℕ) → n ≤ i → Refused (NoSuch 0 place) ≡ nodeCheck place n i
+node-out place n i h = rw (le-ltb i n h)
+
+pub node-passed : (place n i : ℕ) → nodeCheck place n i ≡ Passed → i < n
+node-passed place n i e = ltb-true i n (unless-passes (ltb i n) (NoSuch 0 place) e)
 
 -- ---- in the places and in the language
 

@@ -3,11 +3,13 @@ use Prim.Native.Nat.{ℕ}
 use mathlib.Core.Path.{_≡_, refl, sym, ap, ap₂, _∙_}
 use mathlib.Core.Bool.{Bool, true, false}
 use mathlib.Core.List.{List, [], _∷_}
+use mathlib.Core.Logic.{_↔_}
 use Rattle.refusals.specs.declared.Refusal.{Refusal}
 use Rattle.refusals.specs.declared.Check.{Check}
 use Rattle.refusals.specs.declared.Check.the-variants.{Passed, Refused}
 use Rattle.refusals.specs.declared.Answer.{Answer}
 use Rattle.refusals.specs.declared.Told.{Told}
+use Rattle.refusals.specs.Told.{told}
 use Rattle.refusals.specs.Checks.{firstOf, answerTold, checkTold}
 use Rattle.refusals.proofs.OneToOne.{told-one, told-not-done, answer-one}
 use Rattle.refusals.proofs.First.{passed-not}
@@ -22,6 +24,11 @@ use Rattle.routes.specs.declared.Ready.{Ready}
 use Rattle.routes.specs.declared.Ready.the-variants.{Given as Places-given, Refused as Call-refused}
 use Rattle.routes.specs.Calls.{freshCheck, StepsRow, stepsRow, stepsSaid, EquationRow, equationRow, equationSaid, matricesChecks}
 use Rattle.routes.specs.Ready.{FreshReady, MatricesReady}
+
+-- a check tells a refusal exactly when it gives it
+pub told-exactly : (c : Check) (r : Refusal) → (checkTold c ≡ told r) ↔ (c ≡ Refused r)
+told-exactly Passed r = (λ e. absurd (told-not-done r (sym e)), λ e. absurd (passed-not r e))
+told-exactly (Refused s) r = (λ e. ap Refused (told-one s r e), λ e. ap checkTold e)
 
 pub fresh-answers-equal : (l : Language) (n : ℕ) (r : List ℕ) (x y : Answer) → answerTold x ≡ checkTold (freshCheck l n r) → answerTold y ≡ checkTold (freshCheck l n r) → x ≡ y
 fresh-answers-equal l n r x y p q = answer-one x y (p ∙ sym q)

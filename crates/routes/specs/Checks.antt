@@ -65,3 +65,7 @@ stepsFrom n k (x ∷ list) = cond (isStep n x) (stepsFrom n (suc k) list) (Refus
 
 abbrev pub listCheck : ℕ → List ℕ → Check
 listCheck n list = stepsFrom n 0 list
+
+-- 7: the node that the call is given as argument number place is 0..n-1
+abbrev pub nodeCheck : ℕ → ℕ → ℕ → Check
+nodeCheck place n i = unless (ltb i n) (NoSuch 0 place)

@@ -15,7 +15,7 @@ ghost use Prim.Native.Nat.{_≤_};
 ghost use Rattle.refusals.specs.Checks.{firstOf};
 ghost use Rattle.weights.specs.Languages.{placesOf};
 ghost use Rattle.matrices.specs.Buffers.{Square};
-ghost use Rattle.routes.specs.Checks.{nodesCheck, lengthCheck, lawDCheck, lawUCheck, arcsCheck, routesCheck};
+ghost use Rattle.routes.specs.Checks.{nodesCheck, lengthCheck, lawDCheck, lawUCheck, arcsCheck, routesCheck, nodeCheck};
 ghost use Rattle.routes.specs.Ready.{FreshReady, MatricesReady};
 
 // 3: the number of nodes.
@@ -76,6 +76,16 @@ fn check_entries(p: Places, n: usize, a: &[u32], r: &[u32]) -> Check
         Check::Refused(x) => Check::Refused(x),
         Check::Passed => matrices::checks::first_malformed(p, MATRIX_SUM, 2, n, r),
     }
+}
+
+// 7: the node that is the call's argument number `place`.
+pub fn check_node(place: u32, n: u32, i: u32) -> Check
+    ensures { λ c. ⌜ c ≡ nodeCheck place n i ⌝ }
+{
+    if i < n {
+        return Check::Passed;
+    }
+    Check::Refused(Refusal::NoSuch { which: 0, place })
 }
 
 // The checks of fresh: 3, 5, 4, 9, 10.

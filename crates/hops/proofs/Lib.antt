@@ -1,0 +1,5 @@
+pub mod Rule
+pub mod Searching
+pub mod Answers
+pub mod Unique
+pub mod Exact

@@ -1,0 +1,2 @@
+pub mod NextHop
+pub mod Calls
