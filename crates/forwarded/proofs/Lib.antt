@@ -1,3 +1,4 @@
 pub mod ReadBack
 pub mod Forwards
 pub mod Exact
+pub mod Worked
