@@ -2,10 +2,11 @@
 -- mode needs the law and it fails over all weights; 12 where R does not satisfy the routing equation, and so never where R is the best.
 use Prim.Native.Nat.{ℕ, suc, _*_}
 use mathlib.Core.Path.{_≡_, refl, sym, ap, subst, _∙_}
-use mathlib.Core.Bool.{Bool, true, false, not, cond, _&&_, _||_}
+use mathlib.Core.Bool.{Bool, true, false, not, cond, _&&_, _||_, false≢true}
 use mathlib.Core.List.{List, [], _∷_, _++_}
 use mathlib.Core.Logic.{_⊎_, inl, inr, _↔_}
 use native.Mathlib.Omega.{arith}
+use borrow.Author.Tests.{eqb-true}
 use lib.Dec.{leb, eqb}
 use lib.ListN.{length}
 use Rattle.refusals.specs.declared.Refusal.{Refusal}
@@ -32,6 +33,7 @@ use Rattle.matrices.specs.Steps.{solves}
 use Rattle.matrices.proofs.Every.{solves-exactly}
 use Rattle.matrices.proofs.Malformed.{refuses-first}
 use Rattle.tables.specs.declared.Mode.{Mode}
+use Rattle.tables.specs.declared.Mode.the-variants.{Plain, Hot, Cold}
 use Rattle.tables.specs.declared.Chosen.{Chosen}
 use Rattle.tables.specs.declared.Chosen.the-variants.{Fits, Unfit}
 use Rattle.tables.specs.Entries.{modeFor, needsC}
@@ -42,7 +44,7 @@ use Rattle.routes.specs.Calls.{matrixOf}
 use Rattle.routes.proofs.Bridge.{entry-valid}
 use Rattle.routes.proofs.Order.{goes-on, nodes-passed, length-passed, unless-passes}
 use Rattle.matrices.proofs.Malformed.{check-formed}
-use Rattle.forwarding.specs.Checks.{destinationsCheck, chosenCheck, modeCheck, tableLengthCheck, lawCCheck, mappingCheck, solvesCheck}
+use Rattle.forwarding.specs.Checks.{destinationsCheck, chosenCheck, chosenMode, modeCheck, tableLengthCheck, lawCCheck, mappingCheck, solvesCheck}
 use Rattle.forwarding.specs.Calls.{modeMeant, forwardChecks, forwardCheck}
 use Rattle.forwarded.specs.Table.{HoldsBest}
 
@@ -213,6 +215,31 @@ module _ (l : Language) (n m number : ℕ) (a r s f : List ℕ) where
 
       after : Never (Law 3 0) (arcsCheck cs n a ∷ routesCheck cs n r ∷ mappingCheck mode cs n m s ∷ solvesCheck cs n a r ∷ [])
       after = entries-never (Law 3 0) (λ e. omega arith) (solvesCheck cs n a r ∷ []) (other (Law 3 0) (unless-numbered (solves cs n (matrixOf l n a) (matrixOf l n r)) (Equation 2 0)) (λ e. omega arith), tt)
+
+  -- among numbers that fit, 2 alone means a mode that needs law C
+  hot-is-two : modeCheck cs m number ≡ Passed → (needsC mode ≡ true) ↔ (number ≡ 2)
+  hot-is-two h = (there (leb 1 m) (eqb number 1) (eqb number 2) (eqb number 3) refl, back)
+    where
+      there : (b one two three : Bool) → eqb number 2 ≡ two → needsC (chosenMode (cond b (cond one (Fits Plain) (cond two (Fits Hot) (cond three (Fits Cold) Unfit))) Unfit)) ≡ true → number ≡ 2
+      there false one two three q e = absurd (false≢true e)
+      there true true two three q e = absurd (false≢true e)
+      there true false true three q e = eqb-true number 2 q
+      there true false false true q e = absurd (false≢true e)
+      there true false false false q e = absurd (false≢true e)
+
+      fits : (b : Bool) → chosenCheck (cond b (Fits Hot) Unfit) ≡ Passed → needsC (chosenMode (cond b (Fits Hot) Unfit)) ≡ true
+      fits true e = refl
+      fits false e = absurd (passed-not (Size 3 0) (sym e))
+
+      back : number ≡ 2 → needsC mode ≡ true
+      back q = subst (λ (k : ℕ). needsC (modeMeant l m k) ≡ true) (sym q) (fits (leb 1 m) (subst (λ (k : ℕ). modeCheck cs m k ≡ Passed) q h))
+
+  -- Said of the mode's number: 10 3 0 exactly where all checks before it pass, the mode is 2, hot, and law C fails over all weights.
+  pub hot-refused : (checkTold (forwardCheck l n m number a r s f) ≡ row 10 3 0) ↔ (Pass beforeLawC × (number ≡ 2) × (LawC cs → ⊥))
+  hot-refused = (
+    λ e. let g = law-C-refused .0 e in (g .0, hot-is-two (g .0 .1 .1 .0) .0 (g .1), g .2),
+    λ (p, q, g). law-C-refused .1 (p, hot-is-two (p .1 .1 .0) .1 q, g),
+  )
 
   -- ---- 12
 

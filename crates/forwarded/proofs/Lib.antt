@@ -2,3 +2,4 @@ pub mod ReadBack
 pub mod Forwards
 pub mod Exact
 pub mod Worked
+pub mod Swept

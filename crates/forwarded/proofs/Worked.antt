@@ -1,7 +1,7 @@
 -- The forwarding tables whose numbers source document 002 prints: figure 6, a cold table over widths and a hot table over distances.
 -- In 01's words: a bandwidth of infinity is width's limit, an entry of infinity is empty, and nodes are numbered from 0. Then the calls
 -- on these buffers, and on those of 01's printed case.
-use Prim.Native.Nat.{ℕ, zero, suc, _+_, _*_, _-_}
+use Prim.Native.Nat.{ℕ, zero, suc, _+_, _*_, _-_, _≤_, _<_}
 use mathlib.Core.Path.{_≡_, refl}
 use mathlib.Core.Bool.{true}
 use mathlib.Core.List.{List, [], _∷_, _++_}
@@ -99,10 +99,13 @@ band-forwarded = (refl, refl, refl)
 abbrev distance : List Component
 distance = Dist ∷ []
 
--- 002's outside values are here pairs of a bandwidth and a metric, the smaller metric first and then the larger bandwidth. This number
--- keeps that order for bandwidths below 100.
+-- 002's outside values are here pairs of a bandwidth and a metric, the smaller metric first and then the larger bandwidth. A number
+-- that keeps that order, for bandwidths below 100 and metrics from 1:
 abbrev pub pair : ℕ → ℕ → ℕ
 pair bandwidth metric = 100 * metric - bandwidth
+
+pub pair-keeps-order : (b c p q : ℕ) → b < 100 → c < 100 → 1 ≤ p → (p < q → pair b p < pair c q) × (c < b → pair b p < pair c p)
+pair-keeps-order b c p q hb hc hp = (λ h. omega arith, λ h. omega arith)
 
 -- figure 6(g), in which x, between 1 and 3, and y, between 4 and 5, cannot be read
 abbrev pub distanceRoutes : ℕ → ℕ → List (List Weight)
