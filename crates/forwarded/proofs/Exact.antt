@@ -4,20 +4,19 @@ use Prim.Native.Nat.{ℕ, suc, _*_}
 use mathlib.Core.Path.{_≡_, refl, sym, ap, subst, _∙_}
 use mathlib.Core.Bool.{Bool, true, false, not, cond, _&&_, _||_, false≢true}
 use mathlib.Core.List.{List, [], _∷_, _++_}
-use mathlib.Core.Logic.{_⊎_, inl, inr, _↔_}
+use mathlib.Core.Logic.{_↔_}
 use native.Mathlib.Omega.{arith}
 use borrow.Author.Tests.{eqb-true}
 use lib.Dec.{leb, eqb}
 use lib.ListN.{length}
 use Rattle.refusals.specs.declared.Refusal.{Refusal}
-use Rattle.refusals.specs.declared.Refusal.the-variants.{Size, BadComponent, BadCount, Length, Law, Equation, Value}
+use Rattle.refusals.specs.declared.Refusal.the-variants.{Size, BadComponent, BadCount, Length, Law, Equation}
 use Rattle.refusals.specs.declared.Check.{Check}
 use Rattle.refusals.specs.declared.Check.the-variants.{Passed, Refused}
-use Rattle.refusals.specs.declared.Told.{Told}
 use Rattle.refusals.specs.Told.{row, told, done}
 use Rattle.refusals.specs.Checks.{unless, firstOf, checkTold, Pass, Gives}
 use Rattle.refusals.proofs.OneToOne.{told-one, told-not-done}
-use Rattle.refusals.proofs.First.{passed-not, first-exactly, pass-first, first-passes}
+use Rattle.refusals.proofs.First.{passed-not, first-exactly, pass-first}
 use Rattle.algebra.specs.Step.{Solves}
 use Rattle.weights.specs.declared.Component.{Component}
 use Rattle.weights.specs.declared.Language.{Language}

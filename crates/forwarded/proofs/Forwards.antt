@@ -1,8 +1,8 @@
 -- A done call of forward leaves a table that is the forwarding sum, satisfies the forwarding equation, has its sums within 1,048,560,
 -- and is the best over paths where R is.
 use Prim.Native.Nat.{ℕ, zero, suc, _≤_, _<_}
-use mathlib.Core.Path.{_≡_, refl, sym, ap, subst, _∙_}
-use mathlib.Core.Bool.{Bool, true, cond}
+use mathlib.Core.Path.{_≡_, sym, ap, subst, _∙_}
+use mathlib.Core.Bool.{cond}
 use mathlib.Core.List.{List, [], _∷_}
 use native.Mathlib.Omega.{arith}
 use lib.Dec.{ltb}
@@ -10,7 +10,7 @@ use lib.ListN.{length}
 use Rattle.refusals.specs.declared.Refusal.the-variants.{Equation}
 use Rattle.refusals.specs.declared.Check.{Check}
 use Rattle.refusals.specs.declared.Check.the-variants.{Passed}
-use Rattle.refusals.specs.Checks.{unless, firstOf}
+use Rattle.refusals.specs.Checks.{firstOf}
 use Rattle.refusals.proofs.First.{pass-first, first-passes}
 use Rattle.algebra.specs.Path.{ValidMatrix}
 use Rattle.algebra.specs.Step.{Solves}
@@ -23,7 +23,7 @@ use Rattle.weights.specs.declared.Language.{Language}
 use Rattle.weights.specs.declared.Places.{Places}
 use Rattle.weights.specs.Sizes.{places, arcSum, matrixSum, tableSum}
 use Rattle.weights.specs.Weights.{Valid, Sound, language}
-use Rattle.weights.specs.Languages.{componentsOf, countCheck, limitCheck, languageCheck, padded, placesOf, SmallLimits}
+use Rattle.weights.specs.Languages.{componentsOf, countCheck, limitCheck, padded, placesOf, SmallLimits}
 use Rattle.weights.proofs.Checking.{few, check-sound, placed-is}
 use Rattle.weights.proofs.Padding.{padWeight}
 use Rattle.weights.proofs.Readings.{well-read}
@@ -34,7 +34,7 @@ use Rattle.matrices.proofs.Every.{solves-exactly}
 use Rattle.matrices.proofs.Malformed.{check-formed, formed-check}
 use Rattle.tables.specs.declared.Mode.{Mode}
 use Rattle.tables.specs.Entries.{Entry, modeOf, ValidT, ValidEntry}
-use Rattle.tables.specs.Tables.{wordsOf, tableWords, tablePlace, entryAt, tableIn, decodedEntry, FormedTable}
+use Rattle.tables.specs.Tables.{tableWords, tablePlace, entryAt, tableIn, decodedEntry, FormedTable}
 use Rattle.tables.specs.Parts.{weightIn, GivenTable}
 use Rattle.tables.proofs.EntrySums.{forwarded-sum}
 use Rattle.tables.proofs.Forwarded.{sum-formed as places-formed}
@@ -44,10 +44,9 @@ use Rattle.tables.proofs.SemiModules.{language-forwards, language-forwarded-bes
 use Rattle.tables.proofs.TableBlocks.{table-five}
 use Rattle.routes.specs.Calls.{matrixOf}
 use Rattle.routes.proofs.Bridge.{check-pad, entry-valid, entry-padded}
-use Rattle.routes.proofs.Order.{nodes-passed, unless-passes, goes-on}
-use Rattle.forwarding.specs.Checks.{solvesCheck}
+use Rattle.routes.proofs.Order.{nodes-passed, unless-passes}
 use Rattle.forwarding.specs.Calls.{tableOf, modeMeant, buffersChecks, argumentsChecks, forwardCheck, sumOf, forwardLeftBy, forwardLeft}
-use Rattle.forwarding.proofs.Order.{parts, destinations-passed, Long, Lawful, WellFormed, Ready, buffers-passed}
+use Rattle.forwarding.proofs.Order.{parts, destinations-passed, WellFormed, Ready, buffers-passed}
 use Rattle.forwarding.proofs.Answers.{forward-order}
 use Rattle.forwarded.specs.Table.{left, HoldsBest, TableSays}
 use Rattle.forwarded.proofs.ReadBack.{entry-back, entry-sum}

@@ -1,6 +1,6 @@
 -- Entries and their words, in the language: an entry that is written reads back, and what is well-formed has small sums.
 use Prim.Native.Nat.{ℕ, zero, suc, _≤_}
-use mathlib.Core.Path.{_≡_, refl, sym, ap, subst, _∙_}
+use mathlib.Core.Path.{_≡_, refl, ap, subst, _∙_}
 use mathlib.Core.Bool.{Bool, true, false, cond, _&&_, and-false, false≢true}
 use mathlib.Core.List.{List, [], _∷_, _++_}
 use native.Mathlib.Omega.{arith}
@@ -12,7 +12,7 @@ use Rattle.weights.specs.declared.Component.{Component}
 use Rattle.weights.specs.Sizes.{weightWords, ones}
 use Rattle.weights.specs.Weights.{none, route, ValidValues}
 use Rattle.weights.specs.Words.{filled, allAre, fits, good, malformed}
-use Rattle.weights.proofs.Readings.{Well, values}
+use Rattle.weights.proofs.Readings.{values}
 use Rattle.weights.proofs.Sums.{sumOf, sumAt, well-sum}
 use Rattle.tables.specs.declared.Mode.{Mode}
 use Rattle.tables.specs.declared.Mode.the-variants.{Plain, Hot, Cold}

@@ -3,7 +3,6 @@ use Prim.Native.Nat.{ℕ}
 use mathlib.Core.Path.{_≡_, refl, sym, ap, ap₂, subst, _∙_}
 use mathlib.Core.Bool.{Bool, not, _||_}
 use mathlib.Core.List.{List, [], _∷_}
-use lib.ListN.{length}
 use Rattle.refusals.specs.declared.Refusal.{Refusal}
 use Rattle.refusals.specs.declared.Refusal.the-variants.{Law, Equation}
 use Rattle.refusals.specs.declared.Check.{Check}
@@ -22,7 +21,6 @@ use Rattle.weights.specs.Languages.{componentsOf, countCheck, limitCheck, padde
 use Rattle.weights.proofs.Padding.{padWeight, testD-pad, testU-pad, testC-pad, sound-unpad}
 use Rattle.weights.proofs.Checking.{few}
 use Rattle.matrices.specs.Buffers.{matrixIn}
-use Rattle.matrices.specs.Steps.{Matrix}
 use Rattle.tables.specs.declared.Mode.{Mode}
 use Rattle.tables.specs.Entries.{modeOf, needsC}
 use Rattle.tables.specs.Tables.{tableWords, tableIn}
@@ -32,7 +30,7 @@ use Rattle.routes.specs.Calls.{matrixOf}
 use Rattle.routes.proofs.Bridge.{check-pad, buffer-goes, solves-go}
 use Rattle.routes.proofs.Order.{stops, goes-on}
 use Rattle.forwarding.specs.Checks.{destinationsCheck, modeCheck, chosenMode, mappingCheck, solvesCheck}
-use Rattle.forwarding.specs.Calls.{tableOf, modeMeant, buffersChecks, argumentsChecks, forwardCheck, forwardLeftBy, forwardLeft}
+use Rattle.forwarding.specs.Calls.{modeMeant, buffersChecks, argumentsChecks, forwardCheck, forwardLeftBy, forwardLeft}
 use Rattle.forwarding.specs.Ready.{InPlaces, Means}
 use Rattle.forwarding.proofs.Order.{group, Lengths, Laws, Entries, buffers-order, Long, lengths-passed, WellFormed, entries-passed, buffers-passed}
 

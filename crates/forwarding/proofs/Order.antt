@@ -1,6 +1,6 @@
 -- The checks of forwarding, group by group: what one after another gives, and what is known once all have passed.
 use Prim.Native.Nat.{ℕ, _*_, _≤_, _<_}
-use mathlib.Core.Path.{_≡_, refl, sym, ap, ap₂, subst, _∙_}
+use mathlib.Core.Path.{_≡_, refl, sym, ap, subst, _∙_}
 use mathlib.Core.Bool.{Bool, true, false, not, _||_}
 use mathlib.Core.List.{List, [], _∷_, _++_}
 use native.Mathlib.Omega.{arith}
@@ -19,14 +19,13 @@ use Rattle.weights.specs.declared.Places.{Places}
 use Rattle.weights.specs.Sizes.{places, entryWords, arcSum, matrixSum}
 use Rattle.weights.specs.Weights.{Sound}
 use Rattle.weights.specs.Laws.{testD, testU, testC}
-use Rattle.weights.specs.Languages.{componentsOf, countCheck, limitCheck, languageCheck, padded, placesOf, SmallLimits}
+use Rattle.weights.specs.Languages.{componentsOf, languageCheck, padded, placesOf, SmallLimits}
 use Rattle.weights.proofs.Padding.{sound-pad}
 use Rattle.weights.proofs.Checking.{check-sound}
 use Rattle.matrices.specs.Buffers.{matrixIn, Square, Formed}
 use Rattle.matrices.specs.Steps.{solves, Given}
 use Rattle.matrices.proofs.Malformed.{check-formed}
 use Rattle.tables.specs.declared.Mode.{Mode}
-use Rattle.tables.specs.declared.Chosen.{Chosen}
 use Rattle.tables.specs.declared.Chosen.the-variants.{Fits, Unfit}
 use Rattle.tables.specs.Entries.{modeFor, needsC}
 use Rattle.tables.specs.Tables.{Sized, FormedTable}
@@ -34,7 +33,7 @@ use Rattle.tables.specs.Parts.{GivenTable}
 use Rattle.tables.proofs.MalformedEntries as entries
 use Rattle.routes.specs.Checks.{nodesCheck, lengthCheck, lawDCheck, lawUCheck, arcsCheck, routesCheck}
 use Rattle.routes.proofs.Order.{stops, goes-on, last, nodes-passed, unless-passes, length-passed}
-use Rattle.forwarding.specs.Checks.{mostDestinations, destinationsCheck, chosenCheck, modeCheck, tableLengthCheck, lawCCheck, mappingCheck, solvesCheck}
+use Rattle.forwarding.specs.Checks.{mostDestinations, destinationsCheck, chosenCheck, tableLengthCheck, lawCCheck, mappingCheck, solvesCheck}
 use Rattle.forwarding.specs.Calls.{buffersChecks, argumentsChecks}
 use Rattle.forwarding.specs.Ready.{InPlaces, Means}
 

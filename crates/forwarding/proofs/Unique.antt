@@ -4,7 +4,7 @@ use mathlib.Core.Path.{_≡_, sym, ap, ap₂, _∙_}
 use mathlib.Core.List.{List, []}
 use Rattle.refusals.specs.declared.Refusal.{Refusal}
 use Rattle.refusals.specs.declared.Check.{Check}
-use Rattle.refusals.specs.declared.Check.the-variants.{Passed, Refused}
+use Rattle.refusals.specs.declared.Check.the-variants.{Refused}
 use Rattle.refusals.specs.declared.Answer.{Answer}
 use Rattle.refusals.specs.Checks.{answerTold, checkTold}
 use Rattle.refusals.proofs.OneToOne.{answer-one}

@@ -1,5 +1,4 @@
 use Rattle.forwarding.proofs.Order.{destinations-high, destinations-in}
-use borrow.Author.Needs.{needs}
 use Rattle.forwarding.proofs.checks.check_destinations.Statement.{statement}
 use Rattle.forwarding.proofs.checks.check_destinations.Tie as tie
 
