@@ -3,7 +3,12 @@
 // Request: call; language (count, then kind and limit of four places); n, m, mode, i, j; the length of each buffer; the buffers.
 // Response: number, which, place; the values of the answer; every buffer that the call may write. It is the single word
 // 4294967295 where a buffer is too long for this program. A request that does not add up ends the program.
-mod calls;
+mod filed;
+mod lent;
+mod report;
+mod routing;
+mod shared;
+mod tabled;
 
 use exchange::frames;
 use exchange::requests;
@@ -11,10 +16,15 @@ use exchange::requests;
 // Answers one request; false where it is none.
 fn answer(words: &[u32]) -> bool {
     match requests::number(words, requests::CALL) {
-        1 => calls::laws_call(words),
-        2 => calls::fresh_call(words),
-        3 => calls::steps_call(words),
-        4 => calls::equation_call(words),
+        1 => report::laws_call(words),
+        2 => routing::fresh_call(words),
+        3 => routing::steps_call(words),
+        4 => routing::equation_call(words),
+        5 => tabled::forward_call(words),
+        6 => routing::hop_call(words),
+        7 => lent::lent_call(words),
+        8 => lent::which_call(words),
+        9 => filed::read_call(words),
         _ => false,
     }
 }

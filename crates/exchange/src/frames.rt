@@ -58,7 +58,7 @@ pub fn to_words(bytes: &[u8], size: usize, words: &mut [u32]) -> usize {
     count
 }
 
-fn low_byte(word: u32) -> u8 {
+pub fn low_byte(word: u32) -> u8 {
     (word & 0xff) as u8
 }
 

@@ -10,6 +10,14 @@ pub const CALL: usize = 0;
 
 pub const NODES: usize = 10;
 
+pub const DESTINATIONS: usize = 11;
+
+pub const MODE: usize = 12;
+
+pub const FROM: usize = 13;
+
+pub const TO: usize = 14;
+
 // The lengths of the buffers follow the numbers.
 const LENGTHS: usize = 15;
 

@@ -3,7 +3,10 @@
 
 use std::fmt;
 
-use reference::{equation, fresh, laws, steps, Component, Language, Refusal};
+use reference::{
+    equation, forward, fresh, laws, lent_row, next_hop, read, steps, which_refusal, Component,
+    Language, Lent, Refusal,
+};
 
 /// Count, then kind and limit for each of four places.
 pub type LanguageWords = [u32; 9];
@@ -14,10 +17,25 @@ pub enum Kind {
     Fresh = 2,
     Steps = 3,
     Equation = 4,
+    Forward = 5,
+    NextHop = 6,
+    LentRow = 7,
+    WhichRefusal = 8,
+    Read = 9,
 }
 
 impl Kind {
-    pub const ALL: [Kind; 4] = [Kind::Laws, Kind::Fresh, Kind::Steps, Kind::Equation];
+    pub const ALL: [Kind; 9] = [
+        Kind::Laws,
+        Kind::Fresh,
+        Kind::Steps,
+        Kind::Equation,
+        Kind::Forward,
+        Kind::NextHop,
+        Kind::LentRow,
+        Kind::WhichRefusal,
+        Kind::Read,
+    ];
 
     pub fn name(self) -> &'static str {
         match self {
@@ -25,6 +43,11 @@ impl Kind {
             Kind::Fresh => "fresh",
             Kind::Steps => "steps",
             Kind::Equation => "equation",
+            Kind::Forward => "forward",
+            Kind::NextHop => "next hop",
+            Kind::LentRow => "lent row",
+            Kind::WhichRefusal => "which refusal",
+            Kind::Read => "read",
         }
     }
 
@@ -34,17 +57,99 @@ impl Kind {
             Kind::Laws => &[],
             Kind::Fresh => &["r"],
             Kind::Steps => &["a", "r", "list"],
-            Kind::Equation => &["a", "r"],
+            Kind::Equation | Kind::NextHop => &["a", "r"],
+            Kind::Forward => &["a", "r", "mapping", "f"],
+            Kind::LentRow | Kind::WhichRefusal => &["a", "standing", "newer"],
+            Kind::Read => &["file", "arcs", "mapping"],
         }
     }
 
-    /// The refusals that the call can give.
-    pub fn refusals(self) -> &'static [u32] {
+    /// The refusals that the call can give, by number and which.
+    pub fn refusals(self) -> &'static [(u32, u32)] {
         match self {
-            Kind::Laws => &[4, 5],
-            Kind::Fresh => &[3, 4, 5, 9, 10],
-            Kind::Steps => &[3, 4, 5, 6, 7, 9, 10, 11, 13],
-            Kind::Equation => &[3, 4, 5, 6, 9, 10],
+            Kind::Laws => &[(4, 0), (5, 0)],
+            Kind::Fresh => &[(3, 1), (4, 0), (5, 0), (9, 2), (10, 1), (10, 2)],
+            Kind::Steps => &[
+                (3, 1),
+                (4, 0),
+                (5, 0),
+                (6, 1),
+                (6, 2),
+                (7, 0),
+                (9, 1),
+                (9, 2),
+                (10, 1),
+                (10, 2),
+                (11, 0),
+                (13, 0),
+            ],
+            Kind::Equation => &[
+                (3, 1),
+                (4, 0),
+                (5, 0),
+                (6, 1),
+                (6, 2),
+                (9, 1),
+                (9, 2),
+                (10, 1),
+                (10, 2),
+            ],
+            Kind::Forward => &[
+                (3, 1),
+                (3, 2),
+                (3, 3),
+                (4, 0),
+                (5, 0),
+                (6, 1),
+                (6, 2),
+                (6, 3),
+                (9, 1),
+                (9, 2),
+                (9, 3),
+                (9, 4),
+                (10, 1),
+                (10, 2),
+                (10, 3),
+                (12, 2),
+            ],
+            Kind::NextHop => &[
+                (3, 1),
+                (4, 0),
+                (5, 0),
+                (6, 1),
+                (6, 2),
+                (7, 0),
+                (9, 1),
+                (9, 2),
+                (10, 1),
+                (10, 2),
+            ],
+            // the part that is lent tells no refusal
+            Kind::LentRow => &[],
+            Kind::WhichRefusal => &[
+                (3, 1),
+                (4, 0),
+                (5, 0),
+                (6, 1),
+                (7, 0),
+                (9, 1),
+                (9, 2),
+                (9, 5),
+                (10, 1),
+                (10, 2),
+            ],
+            Kind::Read => &[
+                (1, 0),
+                (2, 0),
+                (3, 0),
+                (4, 0),
+                (5, 0),
+                (6, 0),
+                (7, 0),
+                (8, 0),
+                (9, 1),
+                (9, 3),
+            ],
         }
     }
 }
@@ -107,6 +212,34 @@ impl Call {
                 let (refusal, holds) = equation(&language, self.n, a, r);
                 answer(refusal, &[holds.into()], &[])
             }
+            (Kind::Forward, [a, r, mapping, f]) => {
+                let mut f = f.clone();
+                let (m, mode) = (self.m, self.mode);
+                let refusal = forward(&language, self.n, m, mode, a, r, mapping, &mut f);
+                answer(refusal, &[], &f)
+            }
+            (Kind::NextHop, [a, r]) => {
+                let (refusal, found, node) = next_hop(&language, self.n, a, r, self.i, self.j);
+                answer(refusal, &[found.into(), node], &[])
+            }
+            (Kind::LentRow, [a, standing, newer]) => {
+                let part = match lent_row(&language, self.n, a, newer, standing, self.i) {
+                    Lent::Empty => &[],
+                    Lent::Newer(row) => &newer[row],
+                    Lent::Standing(row) => &standing[row],
+                };
+                answer(Refusal::DONE, &[part.len() as u32], part)
+            }
+            (Kind::WhichRefusal, [a, standing, newer]) => {
+                let refusal = which_refusal(&language, self.n, a, newer, standing, self.i);
+                let lender = match lent_row(&language, self.n, a, newer, standing, self.i) {
+                    Lent::Empty => 0,
+                    Lent::Newer(_) => 2,
+                    Lent::Standing(_) => 5,
+                };
+                answer(refusal, &[lender], &[])
+            }
+            (Kind::Read, [file, arcs, mapping]) => expected_read(file, arcs, mapping),
             _ => panic!("{} has other buffers", self.kind.name()),
         }
     }
@@ -125,6 +258,16 @@ fn expected_laws(language: &Language) -> AnswerWords {
         &[&held[..], &report.words.concat()].concat(),
         &[],
     )
+}
+
+/// A file has a byte in each word.
+fn expected_read(file: &[u32], arcs: &[u32], mapping: &[u32]) -> AnswerWords {
+    let bytes: Vec<u8> = file.iter().map(|word| *word as u8).collect();
+    let (mut arcs, mut mapping) = (arcs.to_vec(), mapping.to_vec());
+    let said = read(&bytes, &mut arcs, &mut mapping);
+    let sizes = [said.n, said.m, said.mode];
+    let values = [&sizes[..], &language_words(&said.language)].concat();
+    answer(said.refusal, &values, &[arcs, mapping].concat())
 }
 
 /// An unknown kind and a limit above 16 bits become width 0.

@@ -10,13 +10,11 @@ use crate::calls::{AnswerWords, Call, Kind};
 pub struct Coverage {
     calls: u64,
     words: u64,
-    numbers: BTreeMap<(Kind, u32), u64>,
-    refusals: BTreeMap<(u32, u32), u64>,
+    answers: BTreeMap<(Kind, u32, u32), u64>,
     nodes: BTreeMap<u32, u64>,
-    holds: u64,
+    seen: BTreeMap<&'static str, u64>,
     steps_run: u64,
     longest_run: u32,
-    refused_late: u64,
 }
 
 impl Coverage {
@@ -24,54 +22,113 @@ impl Coverage {
         let (number, which) = (answer[0], answer[1]);
         self.calls += 1;
         self.words += answer.len() as u64;
-        *self.numbers.entry((call.kind, number)).or_default() += 1;
-        if number != 0 {
-            *self.refusals.entry((number, which)).or_default() += 1;
-        } else if call.kind != Kind::Laws {
+        let key = (call.kind, number, which);
+        *self.answers.entry(key).or_default() += 1;
+        let without_nodes = matches!(call.kind, Kind::Laws | Kind::LentRow | Kind::Read);
+        if number == 0 && !without_nodes {
             *self.nodes.entry(call.n).or_default() += 1;
         }
-        match call.kind {
-            Kind::Steps => self.add_steps(number, answer[3]),
-            Kind::Equation => self.holds += u64::from(answer[3]),
-            Kind::Laws | Kind::Fresh => {}
+        if call.kind == Kind::Steps {
+            self.steps_run += u64::from(answer[3]);
+            self.longest_run = self.longest_run.max(answer[3]);
+        }
+        for name in notable(call, answer) {
+            *self.seen.entry(name).or_default() += 1;
         }
     }
 
-    fn add_steps(&mut self, number: u32, done: u32) {
-        self.steps_run += u64::from(done);
-        self.longest_run = self.longest_run.max(done);
-        self.refused_late += u64::from(number == 11 && done > 0);
-    }
-
-    fn count(&self, kind: Kind, number: u32) -> u64 {
-        self.numbers.get(&(kind, number)).copied().unwrap_or(0)
+    fn count(&self, kind: Kind, number: u32, which: u32) -> u64 {
+        let key = (kind, number, which);
+        self.answers.get(&key).copied().unwrap_or(0)
     }
 
     /// The answers that a call can give and that none gave.
     pub fn missing(&self) -> Vec<String> {
         let mut missing = Vec::new();
         for kind in Kind::ALL {
-            for number in [&[0], kind.refusals()].concat() {
-                if self.count(kind, number) == 0 {
-                    missing.push(format!("{} {number}", kind.name()));
+            for (number, which) in [&[(0, 0)], kind.refusals()].concat() {
+                if self.count(kind, number, which) == 0 {
+                    missing.push(format!("{} {number} {which}", kind.name()));
                 }
             }
         }
+        let unseen = NOTABLE.iter().filter(|name| !self.seen.contains_key(*name));
+        missing.extend(unseen.map(|name| name.to_string()));
         missing
     }
 
     fn kind_line(&self, kind: Kind) -> String {
-        let counted = |number: &u32| format!("{number}: {}", self.count(kind, *number));
+        let counted = |(number, which): &(u32, u32)| {
+            format!("{number} {which}: {}", self.count(kind, *number, *which))
+        };
         let refused: Vec<String> = kind.refusals().iter().map(counted).collect();
-        let of_kind = self.numbers.iter().filter(|((k, _), _)| *k == kind);
+        let of_kind = self.answers.iter().filter(|((k, _, _), _)| *k == kind);
         let calls: u64 = of_kind.map(|(_, count)| count).sum();
-        let done = self.count(kind, 0);
+        let done = self.count(kind, 0, 0);
         let name = kind.name();
         format!(
             "{name}: {calls} calls, done {done}, refused {}",
             refused.join(", ")
         )
     }
+}
+
+/// What a long run must have met besides every refusal.
+const NOTABLE: [&str; 14] = [
+    "11 after earlier steps",
+    "a settle done",
+    "the equation holds",
+    "the equation does not hold",
+    "forwarded plain",
+    "forwarded hot",
+    "forwarded cold",
+    "a next hop",
+    "no next hop",
+    "the new row lent",
+    "the standing row lent",
+    "an empty part lent",
+    "7 on j",
+    "a file with attachments",
+];
+
+/// Which of these an answer is.
+fn notable(call: &Call, answer: &AnswerWords) -> Vec<&'static str> {
+    let done = answer[0] == 0;
+    let mut names = Vec::new();
+    let mut note = |holds: bool, name: &'static str| {
+        if holds {
+            names.push(name);
+        }
+    };
+    match call.kind {
+        Kind::Laws | Kind::Fresh => {}
+        Kind::Steps => {
+            note(answer[0] == 11 && answer[3] > 0, NOTABLE[0]);
+            let settles = call.buffers[2].iter().any(|step| *step >= 256);
+            note(done && settles, NOTABLE[1]);
+        }
+        Kind::Equation => {
+            note(done && answer[3] == 1, NOTABLE[2]);
+            note(done && answer[3] == 0, NOTABLE[3]);
+        }
+        Kind::Forward => {
+            note(done && call.mode == 1, NOTABLE[4]);
+            note(done && call.mode == 2, NOTABLE[5]);
+            note(done && call.mode == 3, NOTABLE[6]);
+        }
+        Kind::NextHop => {
+            note(done && answer[3] == 1, NOTABLE[7]);
+            note(done && answer[3] == 0, NOTABLE[8]);
+            note(answer[0] == 7 && answer[2] == 1, NOTABLE[12]);
+        }
+        Kind::LentRow => note(answer[3] == 0, NOTABLE[11]),
+        Kind::WhichRefusal => {
+            note(answer[3] == 2, NOTABLE[9]);
+            note(answer[3] == 5, NOTABLE[10]);
+        }
+        Kind::Read => note(done && answer[4] > 0, NOTABLE[13]),
+    }
+    names
 }
 
 fn listed<K>(counts: &BTreeMap<K, u64>, name: impl Fn(&K) -> String) -> String {
@@ -88,15 +145,12 @@ impl fmt::Display for Coverage {
         for kind in Kind::ALL {
             writeln!(f, "{}", self.kind_line(kind))?;
         }
-        let refusals = listed(&self.refusals, |(number, which)| {
-            format!("{number} {which}")
-        });
-        writeln!(f, "refusals by number and which: {refusals}")?;
         writeln!(f, "done by nodes: {}", listed(&self.nodes, u32::to_string))?;
         writeln!(
             f,
-            "equation: yes {}; steps run {}, the most in a call {}, refused 11 after earlier steps {}",
-            self.holds, self.steps_run, self.longest_run, self.refused_late
-        )
+            "steps run {}, the most in a call {}",
+            self.steps_run, self.longest_run
+        )?;
+        writeln!(f, "{}", listed(&self.seen, |name| name.to_string()))
     }
 }

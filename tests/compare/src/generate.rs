@@ -1,28 +1,40 @@
 //! Generated calls, each from a seed of its own: a valid call, and often some damages on it, so
 //! that the order of the refusals is tried too.
 
+use reference::forwarding::{ENTRY_WORDS, HOT};
 use reference::generator::{
-    any_language, damage_entry, damaged_language, damaged_step_list, lawful_language, Dice,
+    any_language, best_words, cancelling_language, damage_entry, damaged_file, damaged_language,
+    damaged_step_list, lawful_language, mapping_table, sound_file, Dice, Spread,
 };
+use reference::reader::{ARC_ROOM, MAPPING_ROOM};
 use reference::weights::{ONES, WEIGHT_WORDS};
 use reference::Language;
 
 use crate::calls::{language_words, Call, Kind, LanguageWords};
 use crate::networks::{nodes, routing, step_list};
 
-/// What the program has room for in a buffer that a call writes.
+/// What the program has room for in a matrix, and in a table, that a call writes.
 const ROOM: usize = 1_280;
+#[cfg(test)]
+const TABLE_ROOM: usize = 2_816;
+/// A file of more bytes does not fit a request.
+const FILE_ROOM: usize = 9_000;
 const BAD_COUNTS: [u32; 6] = [0, 5, 6, 255, 65_536, u32::MAX];
 const BAD_NODES: [u32; 8] = [0, 17, 18, 255, 256, 65_537, 1 << 30, u32::MAX];
 
 /// The call of a seed.
 pub fn call(seed: u64) -> Call {
     let mut dice = Dice::new(seed);
-    match dice.below(20) {
+    match dice.below(40) {
         0..=2 => laws_call(&mut dice),
-        3..=5 => fresh_call(&mut dice),
-        6..=13 => steps_call(&mut dice),
-        _ => equation_call(&mut dice),
+        3..=4 => fresh_call(&mut dice),
+        5..=11 => steps_call(&mut dice),
+        12..=15 => equation_call(&mut dice),
+        16..=23 => forward_call(&mut dice),
+        24..=27 => hop_call(&mut dice),
+        28..=31 => handover_call(&mut dice, Kind::LentRow),
+        32..=35 => handover_call(&mut dice, Kind::WhichRefusal),
+        _ => read_call(&mut dice),
     }
 }
 
@@ -67,6 +79,139 @@ fn equation_call(dice: &mut Dice) -> Call {
         n,
         vec![case.arcs, case.matrix],
     )
+}
+
+/// Mostly a matrix that satisfies the equation, since all others are refused with 12.
+fn forward_call(dice: &mut Dice) -> Call {
+    let mode = dice.pick(&[1, 2, 2, 3]);
+    let language = if mode == HOT && dice.percent(80) {
+        cancelling_language(dice)
+    } else {
+        lawful_language(dice)
+    };
+    let (n, case) = routing(dice, &language);
+    let most = dice.between(1, 32) as u32;
+    let m = dice.pick(&[1, 1, 2, 3, 5, most]);
+    let matrix = if dice.percent(70) {
+        best_words(&language, n, &case.arcs)
+    } else {
+        case.matrix
+    };
+    let density = dice.between(0, 100);
+    let spread = dice.pick(&[Spread::Small, Spread::Large, Spread::Mixed]);
+    let mapping = mapping_table(dice, &language, (n, m), mode, density, spread);
+    let f = (0..mapping.len()).map(|_| dice.roll() as u32).collect();
+    let buffers = vec![case.arcs, matrix, mapping, f];
+    let mut call = damaged(dice, Kind::Forward, &language, n, buffers);
+    (call.m, call.mode) = (m, mode);
+    spoil_table(dice, &mut call);
+    call
+}
+
+/// Sometimes another m, mode, length or entry of a table.
+fn spoil_table(dice: &mut Dice, call: &mut Call) {
+    match dice.below(20) {
+        0 => call.m = dice.pick(&[0, 33, 34, 255, 256, 65_537, u32::MAX]),
+        1 => call.mode = dice.pick(&[0, 4, 5, 255, 257, 65_538, u32::MAX]),
+        2 => call.mode = dice.pick(&[1, 2, 3]),
+        3 => {
+            let longer = call.buffers[2].len() + dice.pick(&[1, 5]);
+            call.buffers[2].resize(longer, ONES);
+        }
+        4 => {
+            let shorter = call.buffers[3].len().saturating_sub(dice.pick(&[1, 5]));
+            call.buffers[3].truncate(shorter);
+        }
+        5..=7 => damage_entry(dice, &mut call.buffers[2], ENTRY_WORDS),
+        8 => nudge_entry(dice, &mut call.buffers[1]),
+        _ => {}
+    }
+}
+
+fn hop_call(dice: &mut Dice) -> Call {
+    let language = lawful_language(dice);
+    let (n, case) = routing(dice, &language);
+    let mut call = damaged(
+        dice,
+        Kind::NextHop,
+        &language,
+        n,
+        vec![case.arcs, case.matrix],
+    );
+    call.i = node(dice, n);
+    call.j = node(dice, n);
+    call
+}
+
+/// A node, or sometimes none.
+fn node(dice: &mut Dice, n: u32) -> u32 {
+    let any = dice.index(n as usize) as u32;
+    dice.pick(&[any, any, any, any, any, any, any, any, n, u32::MAX])
+}
+
+/// The new matrix is often the best or nearly so, and the standing one holds anything.
+fn handover_call(dice: &mut Dice, kind: Kind) -> Call {
+    let language = lawful_language(dice);
+    let (n, case) = routing(dice, &language);
+    let mut newer = if dice.percent(60) {
+        best_words(&language, n, &case.arcs)
+    } else {
+        case.matrix
+    };
+    match dice.below(10) {
+        0 => nudge_entry(dice, &mut newer),
+        1 => damage_entry(dice, &mut newer, WEIGHT_WORDS),
+        2 => torn_entry(dice, &mut newer),
+        _ => {}
+    }
+    let standing = (0..newer.len()).map(|_| dice.roll() as u32).collect();
+    let mut call = damaged(dice, kind, &language, n, vec![case.arcs, newer, standing]);
+    if dice.percent(5) {
+        let longer = call.buffers[2].len() + dice.pick(&[1, 4]);
+        call.buffers[2].resize(longer, 0);
+    }
+    call.buffers.swap(1, 2);
+    call.i = node(dice, n);
+    call
+}
+
+/// No route with a word of it lost, where there is one.
+fn torn_entry(dice: &mut Dice, words: &mut [u32]) {
+    let is_none = |entry: &&mut [u32]| entry.iter().all(|word| *word == ONES);
+    if let Some(entry) = words.chunks_mut(WEIGHT_WORDS).find(is_none) {
+        entry[dice.index(WEIGHT_WORDS)..].fill(0);
+        entry[0] = ONES;
+    }
+}
+
+/// A file with a byte in each word, and buffers that are mostly long enough.
+fn read_call(dice: &mut Dice) -> Call {
+    let mut file = if dice.percent(40) {
+        sound_file(dice)
+    } else {
+        damaged_file(dice)
+    };
+    file.truncate(FILE_ROOM);
+    let bytes = file.iter().map(|byte| u32::from(*byte)).collect();
+    let arcs = buffer_for(dice, ARC_ROOM);
+    let mapping = buffer_for(dice, MAPPING_ROOM);
+    let mut call = Call::new(Kind::Read, [0; 9], 0, vec![bytes, arcs, mapping]);
+    fill_unused(dice, &mut call);
+    call
+}
+
+fn buffer_for(dice: &mut Dice, room: usize) -> Vec<u32> {
+    let length = dice.pick(&[
+        room,
+        room,
+        room,
+        room + 1,
+        room + 100,
+        room + 200,
+        room - 1,
+        0,
+    ]);
+    (0..length).map(|_| dice.roll() as u32).collect()
 }
 
 fn matrix_words(n: u32) -> usize {
@@ -137,9 +282,13 @@ fn spoil_component(dice: &mut Dice, language: &mut LanguageWords) {
     }
 }
 
-/// The buffers that are matrices; a list is the third.
+/// The buffers that are matrices; a list or a table is the third.
 fn matrices(call: &Call) -> std::ops::Range<usize> {
-    0..call.buffers.len().min(2)
+    match call.kind {
+        Kind::LentRow | Kind::WhichRefusal => 0..3,
+        Kind::Read => 0..0,
+        _ => 0..call.buffers.len().min(2),
+    }
 }
 
 fn change_length(dice: &mut Dice, call: &mut Call) {
@@ -183,6 +332,9 @@ fn spoil_entry(dice: &mut Dice, call: &mut Call) {
 /// A word one more or one less, or an entry that is another's: nearly what it was.
 fn nudge_entry(dice: &mut Dice, words: &mut [u32]) {
     let entries = words.len() / WEIGHT_WORDS;
+    if entries == 0 {
+        return;
+    }
     let to = dice.index(entries) * WEIGHT_WORDS;
     if dice.percent(50) {
         let from = dice.index(entries) * WEIGHT_WORDS;
@@ -218,6 +370,9 @@ mod tests {
             assert!(call.request().len() < 16_384);
             assert_eq!(call.buffers.len(), call.kind.buffer_names().len());
             assert!(matrices(&call).all(|index| call.buffers[index].len() <= ROOM));
+            let tables = matrices(&call).end..call.buffers.len();
+            let fits = |index: usize| call.buffers[index].len() <= TABLE_ROOM;
+            assert!(call.kind != Kind::Forward || tables.clone().all(fits));
         }
     }
 }

@@ -18,7 +18,7 @@ use coverage::Coverage;
 use program::Program;
 
 /// From this many calls on, each answer that a call can give must have been met.
-const ENOUGH: u64 = 20_000;
+const ENOUGH: u64 = 50_000;
 /// Calls that are sent in one write.
 const BATCH: u64 = 32;
 
@@ -51,7 +51,7 @@ fn main() -> ExitCode {
 
 fn options(words: Vec<String>) -> Result<Options, String> {
     let mut options = Options {
-        calls: 100_000,
+        calls: 120_000,
         seed: 1,
         command: Vec::new(),
     };

@@ -2,6 +2,7 @@
 //! It favours plain definitions over speed; comparison drivers check other code against it.
 #![forbid(unsafe_code)]
 
+pub mod corpus;
 pub mod enumeration;
 pub mod forwarding;
 pub mod generator;

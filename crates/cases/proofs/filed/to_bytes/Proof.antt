@@ -2,14 +2,15 @@ use Prim.Native.Nat.{_-_}
 use mathlib.Core.Path.{_≡_}
 use lib.ListN.{length}
 use borrow.Author.Needs.{needs}
-use Rattle.cases.proofs.calls.copy.Statement.{statement}
-use Rattle.cases.proofs.calls.copy.Tie as tie
+use Rattle.cases.proofs.filed.to_bytes.Statement.{statement}
+use Rattle.cases.proofs.filed.to_bytes.Tie as tie
+use Rattle.exchange.proofs.frames.low_byte.Reads as low-byte-reads
 
 abbrev Inv-loop : tie.InvT-loop
-Inv-loop from to₀ i₀ to i = length to ≡ length to₀
+Inv-loop words bytes₀ i₀ bytes i = length bytes ≡ length bytes₀
 
 abbrev μ-loop : tie.MeasureT-loop
-μ-loop from to₀ i₀ to i = length from - i
+μ-loop words bytes₀ i₀ bytes i = length words - i
 
 loop-holds : tie.Need-loop-holds Inv-loop μ-loop
 loop-holds c = search needs
@@ -20,17 +21,17 @@ same-length c = search needs
 returns : tie.Need-returns Inv-loop μ-loop
 returns c = search needs
 
-mul-to : tie.Need-mul-to Inv-loop μ-loop
-mul-to c = search needs
+mul-low-byte : tie.Need-mul-low-byte Inv-loop μ-loop
+mul-low-byte c = search needs
 
-shared-slice-read-to : tie.Need-shared-slice-read-to Inv-loop μ-loop
-shared-slice-read-to c = search needs
+shared-slice-read-low-byte : tie.Need-shared-slice-read-low-byte Inv-loop μ-loop
+shared-slice-read-low-byte c = search needs
 
-mul-to-2 : tie.Need-mul-to-2 Inv-loop μ-loop
-mul-to-2 c = search needs
+low-byte-requires : tie.Need-low-byte-requires Inv-loop μ-loop
+low-byte-requires c κs = search needs
 
-slice-write-to : tie.Need-slice-write-to Inv-loop μ-loop
-slice-write-to c = search needs
+slice-write-bytes : tie.Need-slice-write-bytes Inv-loop μ-loop
+slice-write-bytes c = search needs
 
 add-i : tie.Need-add-i Inv-loop μ-loop
 add-i c = search needs
@@ -47,8 +48,8 @@ same-length-2 c = search needs
 returns-2 : tie.Need-returns-2 Inv-loop μ-loop
 returns-2 c = search needs
 
-pub copy-spec : {M : Type 1} → statement M
-copy-spec =
+pub to-bytes-spec : {M : Type 1} → statement M
+to-bytes-spec =
     tie.close
     (tie.spec
     Inv-loop
@@ -56,10 +57,10 @@ copy-spec =
     loop-holds
     same-length
     returns
-    mul-to
-    shared-slice-read-to
-    mul-to-2
-    slice-write-to
+    mul-low-byte
+    shared-slice-read-low-byte
+    low-byte-requires
+    slice-write-bytes
     add-i
     loop-less
     loop-again

@@ -2,8 +2,8 @@ use mathlib.Core.Path.{sym}
 use native.Mathlib.Omega.{arith}
 use borrow.Table.Elements.{length-take-le}
 use borrow.Author.Needs.{needs}
-use Rattle.cases.proofs.calls.fresh_on.Statement.{statement}
-use Rattle.cases.proofs.calls.fresh_on.Tie as tie
+use Rattle.cases.proofs.routing.steps_on.Statement.{statement}
+use Rattle.cases.proofs.routing.steps_on.Tie as tie
 
 send-too-long-requires : tie.Need-send-too-long-requires
 send-too-long-requires c κs = search needs
@@ -20,17 +20,17 @@ copy-requires c κs = search needs
 array-borrow-prefix-r : tie.Need-array-borrow-prefix-r
 array-borrow-prefix-r c = search needs
 
-slice-aggregate-fresh : tie.Need-slice-aggregate-fresh
-slice-aggregate-fresh c = sym (length-take-le _ _ (omega arith))
+slice-aggregate-steps : tie.Need-slice-aggregate-steps
+slice-aggregate-steps c = sym (length-take-le _ _ (omega arith))
 
-fresh-requires : tie.Need-fresh-requires
-fresh-requires c κs = search needs
+steps-requires : tie.Need-steps-requires
+steps-requires c κs = search needs
 
 returns-2 : tie.Need-returns-2
 returns-2 c = search needs
 
-pub fresh-on-spec : {M : Type 1} → statement M
-fresh-on-spec =
+pub steps-on-spec : {M : Type 1} → statement M
+steps-on-spec =
     tie.close
     (tie.spec
     send-too-long-requires
@@ -38,6 +38,6 @@ fresh-on-spec =
     slice-aggregate-copy
     copy-requires
     array-borrow-prefix-r
-    slice-aggregate-fresh
-    fresh-requires
+    slice-aggregate-steps
+    steps-requires
     returns-2)

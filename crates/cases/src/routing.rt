@@ -1,105 +1,22 @@
-// A function for each call: it takes the buffers from the request, calls, and sends the response. False where the request
-// does not add up.
+// Fresh, steps, the equation and the next hop.
+use super::shared::ROOM;
+use super::shared::copy;
+use super::shared::done;
+use super::shared::respond;
+use super::shared::told;
 use exchange::frames;
 use exchange::requests;
-use laws::Law;
-use laws::LawAnswer;
-use laws::Words;
-use refusals::Answer;
-use refusals::Refusal;
+use hops::HopAnswer;
 use refusals::Told;
 use routes::EquationAnswer;
 use routes::StepsAnswer;
 use weights::Language;
 
-// The room for a buffer that a call writes.
-const ROOM: usize = 1280;
-
-fn done() -> Told {
-    Told {
-        number: 0,
-        which: 0,
-        place: 0,
-    }
-}
-
-fn copy(from: &[u32], to: &mut [u32]) {
-    let mut i: usize = 0;
-    while i < from.len() {
-        if to.len() <= i {
-            return;
-        }
-        to[i] = from[i];
-        i += 1;
-    }
-}
-
-// ---- laws
-
-fn held(law: Law) -> u32 {
-    if law.held { 1 } else { 0 }
-}
-
-fn put_words(frame: &mut [u8], at: usize, w: Words) -> usize {
-    let words = [w.first, w.second, w.third, w.fourth];
-    frames::put(frame, at, &words)
-}
-
-fn put_law(frame: &mut [u8], at: usize, law: Law) -> usize {
-    let s = law.s;
-    let x = law.x;
-    let y = law.y;
-    let after_s = put_words(frame, at, s);
-    let after_x = put_words(frame, after_s, x);
-    put_words(frame, after_x, y)
-}
-
-fn send_report(d: Law, u: Law, c: Law) {
-    let mut frame = io::large_buffer();
-    let start = frames::begin(&mut frame, done());
-    let flags = [held(d), held(u), held(c)];
-    let after_flags = frames::put(&mut frame, start, &flags);
-    let after_d = put_law(&mut frame, after_flags, d);
-    let after_u = put_law(&mut frame, after_d, u);
-    let end = put_law(&mut frame, after_u, c);
-    frames::send(&mut frame, end);
-}
-
-fn send_no_report(r: Refusal) {
-    let mut frame = io::large_buffer();
-    let start = frames::begin(&mut frame, refusals::tell(r));
-    let zeros = [0u32; 39];
-    let end = frames::put(&mut frame, start, &zeros);
-    frames::send(&mut frame, end);
-}
-
-// Call 1: three held words, and twelve words for each law.
-pub fn laws_call(words: &[u32]) -> bool {
-    if !requests::adds_up(words, 0) {
-        return false;
-    }
-    match laws::laws(requests::language(words)) {
-        LawAnswer::Laws { d, u, c } => send_report(d, u, c),
-        LawAnswer::Refused(r) => send_no_report(r),
-    }
-    true
-}
-
 // ---- fresh
-
-fn told(answer: Answer) -> Told {
-    match answer {
-        Answer::Done => done(),
-        Answer::Refused(r) => refusals::tell(r),
-    }
-}
 
 fn fresh(l: Language, n: u32, r: &mut [u32]) {
     let answer = routes::fresh::fresh(l, n, r);
-    let mut frame = io::large_buffer();
-    let start = frames::begin(&mut frame, told(answer));
-    let end = frames::put(&mut frame, start, r);
-    frames::send(&mut frame, end);
+    respond(told(answer), &[], r);
 }
 
 fn fresh_on(l: Language, n: u32, given: &[u32]) {
@@ -145,11 +62,7 @@ fn steps_done(answer: StepsAnswer) -> u32 {
 fn steps(l: Language, n: u32, a: &[u32], r: &mut [u32], list: &[u32]) {
     let answer = routes::steps::steps(l, n, a, r, list);
     let values = [steps_done(answer)];
-    let mut frame = io::large_buffer();
-    let start = frames::begin(&mut frame, steps_told(answer));
-    let after_values = frames::put(&mut frame, start, &values);
-    let end = frames::put(&mut frame, after_values, r);
-    frames::send(&mut frame, end);
+    respond(steps_told(answer), &values, r);
 }
 
 fn steps_on(l: Language, n: u32, a: &[u32], given: &[u32], list: &[u32]) {
@@ -205,10 +118,7 @@ fn satisfied(answer: EquationAnswer) -> u32 {
 fn equation(l: Language, n: u32, a: &[u32], r: &[u32]) {
     let answer = routes::equation::equation(l, n, a, r);
     let values = [satisfied(answer)];
-    let mut frame = io::large_buffer();
-    let start = frames::begin(&mut frame, equation_told(answer));
-    let end = frames::put(&mut frame, start, &values);
-    frames::send(&mut frame, end);
+    respond(equation_told(answer), &values, &[]);
 }
 
 // Call 4: buffers a and r; 1 where r satisfies the equation, else 0.
@@ -227,5 +137,60 @@ pub fn equation_call(words: &[u32]) -> bool {
         &words[start..first],
         &words[first..second],
     );
+    true
+}
+
+// ---- next hop
+
+fn hop_told(answer: HopAnswer) -> Told {
+    match answer {
+        HopAnswer::Hop(_) => done(),
+        HopAnswer::NoHop => done(),
+        HopAnswer::Refused(r) => refusals::tell(r),
+    }
+}
+
+fn found(answer: HopAnswer) -> u32 {
+    match answer {
+        HopAnswer::Hop(_) => 1,
+        HopAnswer::NoHop => 0,
+        HopAnswer::Refused(_) => 0,
+    }
+}
+
+fn small(number: usize) -> u32 {
+    if 65535 < number {
+        return 65535;
+    }
+    number as u32
+}
+
+fn hop_node(answer: HopAnswer) -> u32 {
+    match answer {
+        HopAnswer::Hop(node) => small(node.0),
+        HopAnswer::NoHop => 0,
+        HopAnswer::Refused(_) => 0,
+    }
+}
+
+fn hop(words: &[u32], a: &[u32], r: &[u32]) {
+    let n = requests::number(words, requests::NODES);
+    let i = requests::number(words, requests::FROM);
+    let j = requests::number(words, requests::TO);
+    let answer = hops::next_hop::next_hop(requests::language(words), n, a, r, i, j);
+    let values = [found(answer), hop_node(answer)];
+    respond(hop_told(answer), &values, &[]);
+}
+
+// Call 6: buffers a and r, from i to j; 1 and the node, or 0 and 0.
+pub fn hop_call(words: &[u32]) -> bool {
+    if !requests::adds_up(words, 2) {
+        return false;
+    }
+    let p = requests::cut(words, 2);
+    let start = p.start;
+    let first = p.first;
+    let second = p.second;
+    hop(words, &words[start..first], &words[first..second]);
     true
 }
