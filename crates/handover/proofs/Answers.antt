@@ -1,15 +1,15 @@
 -- From what the inner functions say to the calls' own words: which matrix lends, the row and where it stands.
 use Prim.Native.Nat.{ℕ, _≤_, _<_}
 use mathlib.Core.Path.{_≡_, refl, sym, ap, ap₂, _∙_}
-use mathlib.Core.Bool.{Bool, true, false, cond}
-use mathlib.Core.List.{List, [], _∷_}
+use mathlib.Core.Bool.{Bool, true, false}
+use mathlib.Core.List.{List, []}
 use native.Mathlib.Omega.{arith}
 use Rattle.refusals.specs.declared.Refusal.{Refusal}
 use Rattle.refusals.specs.declared.Check.{Check}
 use Rattle.refusals.specs.declared.Check.the-variants.{Passed, Refused}
 use Rattle.refusals.specs.declared.Answer.the-variants.{Done, Refused as NotDone}
-use Rattle.refusals.specs.Told.{told, done}
-use Rattle.refusals.specs.Checks.{firstOf, Pass, answerTold, checkTold}
+use Rattle.refusals.specs.Told.{told}
+use Rattle.refusals.specs.Checks.{answerTold, checkTold}
 use Rattle.refusals.proofs.First.{first-passes}
 use Rattle.refusals.proofs.OneToOne.{told-one, told-not-done}
 use Rattle.algebra.specs.Best.{best}

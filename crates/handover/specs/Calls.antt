@@ -2,7 +2,7 @@
 -- To be believed: all of it. What `isBest` tests is proved exact: every entry is the best weight over paths that visit no node twice.
 use Prim.Native.Nat.{ℕ, _+_, _*_}
 use mathlib.Core.Path.{_≡_}
-use mathlib.Core.Bool.{Bool, true, false, cond}
+use mathlib.Core.Bool.{Bool, true, cond}
 use mathlib.Core.List.{List, [], _∷_}
 use lib.ListN.{take, drop}
 use Rattle.refusals.specs.declared.Check.{Check}

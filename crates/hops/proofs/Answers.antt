@@ -11,12 +11,12 @@ use Rattle.refusals.specs.declared.Refusal.{Refusal}
 use Rattle.refusals.specs.declared.Check.{Check}
 use Rattle.refusals.specs.declared.Check.the-variants.{Passed, Refused}
 use Rattle.refusals.specs.Checks.{firstOf}
-use Rattle.algebra.proofs.Embedding.{Embedding, Goes, GoesTo, join-goes}
+use Rattle.algebra.proofs.Embedding.{Goes, GoesTo, join-goes}
 use Rattle.weights.specs.declared.Component.{Component}
 use Rattle.weights.specs.declared.Language.{Language}
 use Rattle.weights.specs.declared.Places.{Places}
 use Rattle.weights.specs.Sizes.{places, arcSum, matrixSum}
-use Rattle.weights.specs.Weights.{Weight, none, join, Valid, Sound, language}
+use Rattle.weights.specs.Weights.{Weight, Valid, Sound, language}
 use Rattle.weights.specs.Languages.{componentsOf, padded, placesOf, same}
 use Rattle.weights.proofs.Padding.{padWeight}
 use Rattle.weights.proofs.Checking.{few}
@@ -28,10 +28,9 @@ use Rattle.routes.specs.Ready.{Passing}
 use Rattle.routes.proofs.Bridge.{buffer-goes, embedded, same-padded}
 use Rattle.routes.proofs.Order.{stops, goes-on, passed-both, node-passed, matrices-rest, passing-sound}
 use Rattle.hops.specs.declared.Found.{Found}
-use Rattle.hops.specs.declared.Found.the-variants.{At, Nothing}
 use Rattle.hops.specs.declared.HopAnswer.the-variants.{Refused as HopRefused}
 use Rattle.hops.specs.NextHop.{isHop, lowestFrom, hopOf, foundAt}
-use Rattle.hops.specs.Calls.{hopCheck, HopRow, hopRowBy, hopRow, hopSaid}
+use Rattle.hops.specs.Calls.{hopCheck, hopRowBy, hopRow, hopSaid}
 
 -- ---- in the places and in the language
 

@@ -1,9 +1,9 @@
 -- The call's answer exactly in its case: a refusal where a check gives it and all before it pass, a hop where it is the next hop.
 use Prim.Native.Nat.{ℕ}
-use mathlib.Core.Path.{_≡_, refl, sym, ap, _∙_}
+use mathlib.Core.Path.{_≡_, refl, ap, _∙_}
 use mathlib.Core.List.{List, [], _∷_}
 use mathlib.Core.Logic.{_↔_}
-use mathlib.Core.Option.{Option, some, none as nothing}
+use mathlib.Core.Option.{Option, some}
 use native.Mathlib.Omega.{arith}
 use Rattle.refusals.specs.declared.Refusal.{Refusal}
 use Rattle.refusals.specs.declared.Check.{Check}
@@ -17,7 +17,7 @@ use Rattle.routes.specs.Checks.{nodeCheck}
 use Rattle.routes.specs.Calls.{matrixOf, matricesChecks}
 use Rattle.routes.proofs.Unique.{told-exactly}
 use Rattle.hops.specs.NextHop.{hopOf, NextHop}
-use Rattle.hops.specs.Calls.{hopCheck, HopRow, hopRowBy, hopRow}
+use Rattle.hops.specs.Calls.{hopCheck, hopRowBy, hopRow}
 use Rattle.hops.proofs.Rule.{hop-exactly}
 
 module _ (l : Language) (n : ℕ) (a r : List ℕ) (i j : ℕ) where

@@ -10,7 +10,7 @@ use native.Mathlib.Omega.{arith}
 use lib.Dec.{eqb, ltb}
 use borrow.Author.Tests.{eq-eqb, ne-eqb, eqb-true, ltb-true, ltb-false}
 use Rattle.weights.specs.declared.Component.{Component}
-use Rattle.weights.specs.Weights.{Weight, none, join}
+use Rattle.weights.specs.Weights.{none, join}
 use Rattle.weights.specs.Languages.{same}
 use Rattle.weights.proofs.Compared.{same-exactly}
 use Rattle.weights.proofs.Ordering.{clash}

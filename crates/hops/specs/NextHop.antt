@@ -2,7 +2,7 @@
 -- To be believed: `Gives` and `NextHop`. That `hopOf`, which the contracts cite, gives exactly that node is `hop-exactly` (proofs/Rule).
 use Prim.Native.Nat.{ℕ, zero, suc, _<_}
 use mathlib.Core.Path.{_≡_}
-use mathlib.Core.Bool.{Bool, true, false, cond, not, _&&_, _||_}
+use mathlib.Core.Bool.{Bool, cond, not, _&&_, _||_}
 use mathlib.Core.List.{List}
 use mathlib.Core.Option.{Option, some, none as nothing}
 use lib.Dec.{eqb}

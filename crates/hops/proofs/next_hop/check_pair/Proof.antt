@@ -1,5 +1,4 @@
 use mathlib.Core.Path.{sym, _∙_}
-use Rattle.routes.specs.Checks.{nodeCheck}
 use Rattle.routes.proofs.Order.{stops, goes-on, last}
 use borrow.Author.Needs.{needs}
 use Rattle.hops.proofs.next_hop.check_pair.Statement.{statement}

@@ -1,0 +1,4 @@
+pub mod Tested
+pub mod Recipe
+pub mod Lent
+pub mod Worked

@@ -1,0 +1,176 @@
+-- The recipe of a repair: sweeping cannot change a matrix that satisfies the equation; settling makes it the best, from any matrix.
+use Prim.Native.Nat.{ℕ, suc, _+_, _-_, _≤_, _<_}
+use mathlib.Core.Path.{_≡_, refl, sym, ap, ap₂, subst, _∙_}
+use mathlib.Core.Bool.{Bool, true, false, cond}
+use mathlib.Core.List.{List, [], _∷_, map}
+use mathlib.Core.Logic.{inl, inr}
+use native.Mathlib.Omega.{arith}
+use lib.Dec.{eqb, ltb}
+use lib.ListN.{length}
+use borrow.Author.Tests.{lt-ltb, le-ltb, ltb-false}
+use Rattle.refusals.specs.declared.Refusal.the-variants.{Sum}
+use Rattle.refusals.specs.declared.Check.{Check}
+use Rattle.refusals.specs.declared.Check.the-variants.{Passed, Refused}
+use Rattle.refusals.specs.Told.{told, done}
+use Rattle.refusals.proofs.First.{first-passes}
+use Rattle.refusals.proofs.OneToOne.{told-not-done}
+use Rattle.algebra.specs.Path.{Mem}
+use Rattle.algebra.specs.Best.{Best, best}
+use Rattle.algebra.specs.Step.{Step, row, settle, routed, Solves, step, run}
+use Rattle.algebra.proofs.Demands.{mem-split}
+use Rattle.algebra.proofs.Reach.{run-append, settled-from-any}
+use Rattle.algebra.proofs.Still.{Agree, routed-agree}
+use Rattle.weights.specs.declared.Component.{Component}
+use Rattle.weights.specs.declared.Language.{Language}
+use Rattle.weights.specs.Sizes.{matrixSum}
+use Rattle.weights.specs.Weights.{language}
+use Rattle.weights.specs.Languages.{componentsOf, SmallLimits}
+use Rattle.matrices.specs.Buffers.{matrixWords}
+use Rattle.matrices.specs.Steps.{Matrix, solves}
+use Rattle.matrices.proofs.Entries.{matrix-cong}
+use Rattle.matrices.proofs.Every.{solves-exactly}
+use Rattle.matrices.proofs.Malformed.{check-formed}
+use Rattle.routes.specs.Checks.{firstSettle, manyCheck, listCheck}
+use Rattle.routes.specs.Calls.{matrixOf, stepOf, stepFits, runOf, doneOf, matricesChecks, stepsCheck, stepsRowBy, stepsRow, stepsLeftBy, stepsLeft}
+use Rattle.routes.proofs.Order.{nodes-passed, length-passed}
+use Rattle.histories.proofs.Reached.{network}
+use Rattle.handover.specs.Calls.{bestWords, isBest}
+use Rattle.handover.proofs.Words.{words-exactly}
+use Rattle.handovers.specs.Handovers.{RowsOnly, SettlesAll}
+use Rattle.handovers.proofs.Tested.{Lawfully, formed-words, net, entry-reads, only-best}
+
+-- ---- sweeping
+
+module _ (cs : List Component) (n : ℕ) (A R : Matrix) (e : Solves (language cs) n A R) where
+  -- no list of row steps changes a matrix that satisfies the equation, refused or not
+  still : (rows : List ℕ) (T : Matrix) → Agree (language cs) n A T R → Agree (language cs) n A (runOf cs n A T (map row rows)) R
+  unfolding runOf
+  still [] T t = t
+  still (u ∷ rows) T t = go (stepFits cs n A T (row u)) (still rows (step (language cs) n A (row u) T) stepped)
+    where
+      stepped : Agree (language cs) n A (step (language cs) n A (row u) T) R
+      stepped i j hi hj = entry (eqb i u)
+        where
+          entry : (b : Bool) → cond b (routed (language cs) n A T i j) (T i j) ≡ R i j
+          entry true = routed-agree (language cs) n A T R t i j hj ∙ sym (e i j hi hj)
+          entry false = t i j hi hj
+
+      go : (b : Bool) → Agree (language cs) n A (runOf cs n A (step (language cs) n A (row u) T) (map row rows)) R → Agree (language cs) n A (cond b (runOf cs n A (step (language cs) n A (row u) T) (map row rows)) T) R
+      go true h = h
+      go false h = t
+
+row-steps : (n : ℕ) (list : List ℕ) → n ≤ 16 → RowsOnly n list → map stepOf list ≡ map row list
+row-steps n [] h r = refl
+row-steps n (x ∷ list) h r = let k : x < n = r .0 in ap₂ (λ (s : Step) (t : List Step). s ∷ t) (rw (lt-ltb x firstSettle (omega arith))) (row-steps n list h (r .1))
+
+-- A step call whose list has only row steps leaves a matrix that satisfies the equation as it is: sweeping never repairs it.
+pub sweeping-never-repairs : (l : Language) (n : ℕ) (a r list : List ℕ) → solves (componentsOf l) n (matrixOf l n a) (matrixOf l n r) ≡ true → RowsOnly n list → stepsLeft l n a r list ≡ r
+sweeping-never-repairs l n a r list e rows = go (stepsCheck l n a r list) refl
+  where
+    passed : stepsCheck l n a r list ≡ Passed → matrixWords n (runOf (componentsOf l) n (matrixOf l n a) (matrixOf l n r) (map stepOf list)) ≡ r
+    passed p =
+        let h = first-passes (matricesChecks l n a r (manyCheck list ∷ listCheck n list ∷ [])) p in
+        let few = nodes-passed n (h .0) .1 in
+        let formed = check-formed 2 matrixSum (componentsOf l) n r (length-passed 2 n r few (h .1 .1 .1 .1 .0)) (h .1 .1 .1 .1 .1 .1 .1 .1 .0) in
+        ap (λ (s : List Step). matrixWords n (runOf (componentsOf l) n (matrixOf l n a) (matrixOf l n r) s)) (row-steps n list few rows)
+        ∙ matrix-cong n (runOf (componentsOf l) n (matrixOf l n a) (matrixOf l n r) (map row list)) (matrixOf l n r)
+        (still (componentsOf l) n (matrixOf l n a) (matrixOf l n r) (solves-exactly (componentsOf l) n (matrixOf l n a) (matrixOf l n r) .0 e) list (matrixOf l n r) (λ i j hi hj. refl))
+        ∙ formed-words l matrixSum n r formed
+
+    go : (c : Check) → stepsCheck l n a r list ≡ c → stepsLeft l n a r list ≡ r
+    go Passed p = ap (λ (c : Check). stepsLeftBy c n (runOf (componentsOf l) n (matrixOf l n a) (matrixOf l n r) (map stepOf list)) r) p ∙ passed p
+    go (Refused x) p = ap (λ (c : Check). stepsLeftBy c n (runOf (componentsOf l) n (matrixOf l n a) (matrixOf l n r) (map stepOf list)) r) p
+
+-- ---- settling
+
+-- a run that does every step is the steps' own
+whole-run : (cs : List Component) (n : ℕ) (A R : Matrix) (steps : List Step) → doneOf cs n A R steps ≡ length steps → runOf cs n A R steps ≡ run (language cs) n A steps R
+unfolding runOf doneOf
+whole-run cs n A R [] e = refl
+whole-run cs n A R (s ∷ steps) e = go (stepFits cs n A R s) e (whole-run cs n A (step (language cs) n A s R) steps)
+  where
+    go : (b : Bool) → cond b (suc (doneOf cs n A (step (language cs) n A s R) steps)) 0 ≡ suc (length steps)
+        → (doneOf cs n A (step (language cs) n A s R) steps ≡ length steps → runOf cs n A (step (language cs) n A s R) steps ≡ run (language cs) n A steps (step (language cs) n A s R))
+        → cond b (runOf cs n A (step (language cs) n A s R) steps) R ≡ run (language cs) n A steps (step (language cs) n A s R)
+    go true q ih = ih (omega arith)
+    go false q ih = absurd (omega arith)
+
+length-steps : (xs : List ℕ) → length (map stepOf xs) ≡ length xs
+length-steps [] = refl
+length-steps (x ∷ xs) = ap suc (length-steps xs)
+
+done-most : (cs : List Component) (n : ℕ) (A R : Matrix) (steps : List Step) → doneOf cs n A R steps ≤ length steps
+unfolding doneOf
+done-most cs n A R [] = omega arith
+done-most cs n A R (s ∷ steps) = go (stepFits cs n A R s) (done-most cs n A (step (language cs) n A s R) steps)
+  where
+    go : (b : Bool) → doneOf cs n A (step (language cs) n A s R) steps ≤ length steps → cond b (suc (doneOf cs n A (step (language cs) n A s R) steps)) 0 ≤ suc (length steps)
+    go true h = omega arith
+    go false h = omega arith
+
+settle-number : (j : ℕ) → stepOf (firstSettle + j) ≡ settle j
+settle-number j = let e : firstSettle + j - firstSettle ≡ j = omega arith in rw (le-ltb (firstSettle + j) firstSettle (omega arith)) (ap settle e)
+
+mem-steps : (x : ℕ) (xs : List ℕ) → Mem x xs → Mem (stepOf x) (map stepOf xs)
+mem-steps x [] m = m
+mem-steps x (y ∷ xs) (inl e) = inl (ap stepOf e)
+mem-steps x (y ∷ xs) (inr m) = inr (mem-steps x xs m)
+
+module _ (l : Language) (n : ℕ) (a r list : List ℕ) (limits : SmallLimits 65535 (componentsOf l)) (d : stepsRow l n a r list .told ≡ done) where
+  abbrev cs : List Component
+  cs = componentsOf l
+
+  abbrev A : Matrix
+  A = matrixOf l n a
+
+  abbrev R : Matrix
+  R = matrixOf l n r
+
+  abbrev steps : List Step
+  steps = map stepOf list
+
+  -- a call that is done has passed its checks and done every step
+  passed : stepsCheck l n a r list ≡ Passed
+  passed = go (stepsCheck l n a r list) refl d
+    where
+      go : (c : Check) → stepsCheck l n a r list ≡ c → stepsRowBy c (doneOf cs n A R steps) (length list) .told ≡ done → stepsCheck l n a r list ≡ Passed
+      go Passed p e = p
+      go (Refused x) p e = absurd (told-not-done x e)
+
+  whole : doneOf cs n A R steps ≡ length steps
+  whole = go (ltb (doneOf cs n A R steps) (length list)) refl (sym (ap (λ (c : Check). stepsRowBy c (doneOf cs n A R steps) (length list) .told) passed) ∙ d)
+    where
+      go : (b : Bool) → ltb (doneOf cs n A R steps) (length list) ≡ b → cond b (told (Sum 0 (doneOf cs n A R steps))) done ≡ done → doneOf cs n A R steps ≡ length steps
+      go true p e = absurd (told-not-done (Sum 0 (doneOf cs n A R steps)) e)
+      go false p e = omega (arith, ltb-false (doneOf cs n A R steps) (length list) p, done-most cs n A R steps, length-steps list)
+
+  lawfully : Lawfully l n a
+  lawfully =
+      let h = first-passes (matricesChecks l n a r (manyCheck list ∷ listCheck n list ∷ [])) passed in
+      record { nodes = h .0; sound = h .1 .1 .0; long = h .1 .1 .1 .0; law-D = h .1 .1 .1 .1 .1 .0; law-U = h .1 .1 .1 .1 .1 .1 .0; arcs = h .1 .1 .1 .1 .1 .1 .1 .0; limits = limits }
+
+  left : stepsLeft l n a r list ≡ matrixWords n (run (language cs) n A steps R)
+  left = ap (λ (c : Check). stepsLeftBy c n (runOf cs n A R steps) r) passed ∙ ap (matrixWords n) (whole-run cs n A R steps whole)
+
+  column : (j : ℕ) → Mem (firstSettle + j) list → (i : ℕ) → i < n → Best (language cs) n A i j (run (language cs) n A steps R i j)
+  unfolding net network
+  column j m i hi =
+      let (s, t, e) = mem-split (settle j) steps (subst (λ (x : Step). Mem x steps) (settle-number j) (mem-steps (firstSettle + j) list m)) in
+      subst (λ (w : List Step). Best (language cs) n A i j (run (language cs) n A w R i j)) (sym e)
+      (subst (λ (T : Matrix). Best (language cs) n A i j (T i j)) (sym (run-append (language cs) n A s (settle j ∷ t) R)) (settled-from-any (net l n a lawfully) (run (language cs) n A s R) j t i hi))
+
+  entry : (i j : ℕ) → i < n → Mem (firstSettle + j) list → run (language cs) n A steps R i j ≡ best (language cs) n A i j
+  entry i j hi m = only-best l n a lawfully i j hi (run (language cs) n A steps R i j) (column j m i hi)
+
+  -- From any matrix that passes the checks: a done call whose list settles column j leaves the best there.
+  pub settled-column : (i j : ℕ) → i < n → j < n → Mem (firstSettle + j) list → Best (language cs) n A i j (matrixOf l n (stepsLeft l n a r list) i j)
+  settled-column i j hi hj m =
+      subst (Best (language cs) n A i j) (entry i j hi m ∙ sym (entry-reads l n a lawfully (run (language cs) n A steps R) i j hi hj (entry i j hi m)) ∙ sym (ap (λ (s : List ℕ). matrixOf l n s i j) left)) (column j m i hi)
+
+  -- A done call that settles every column leaves the best matrix, whatever the buffer held before.
+  pub settling-repairs : SettlesAll n list → stepsLeft l n a r list ≡ bestWords l n a
+  settling-repairs all = left ∙ matrix-cong n (run (language cs) n A steps R) (best (language cs) n A) (λ i j hi hj. entry i j hi (all j hj))
+
+  -- So it passes the test of a handover.
+  pub settled-is-best : SettlesAll n list → isBest l n a (stepsLeft l n a r list) ≡ true
+  settled-is-best all = words-exactly (stepsLeft l n a r list) (bestWords l n a) .1 (settling-repairs all)

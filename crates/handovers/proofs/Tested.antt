@@ -1,0 +1,130 @@
+-- The test of the new matrix is exact: it holds where every entry is the best and well formed, and nowhere else.
+use Prim.Native.Nat.{ℕ, _≤_, _<_}
+use mathlib.Core.Path.{_≡_, sym, ap, subst, _∙_}
+use mathlib.Core.Bool.{true}
+use mathlib.Core.List.{List}
+use mathlib.Core.Logic.{_↔_}
+use native.Mathlib.Omega.{arith}
+use lib.ListN.{length}
+use Rattle.refusals.specs.declared.Refusal.the-variants.{Law}
+use Rattle.refusals.specs.declared.Check.the-variants.{Passed}
+use Rattle.algebra.specs.Network.{Network}
+use Rattle.algebra.specs.Best.{Best, best}
+use Rattle.algebra.specs.Step.{sweeps, reached}
+use Rattle.algebra.proofs.Bests.{best-is, best-unique}
+use Rattle.algebra.proofs.Settling.{best-by-sweeps}
+use Rattle.weights.specs.declared.Component.{Component}
+use Rattle.weights.specs.declared.Language.{Language}
+use Rattle.weights.specs.Sizes.{places, arcSum, matrixSum}
+use Rattle.weights.specs.Weights.{Weight, Sound, language}
+use Rattle.weights.specs.Laws.{testD, testU}
+use Rattle.weights.specs.Languages.{componentsOf, limitCheck, SmallLimits}
+use Rattle.weights.specs.Words.{words, decoded}
+use Rattle.weights.proofs.Padding.{words-pad}
+use Rattle.weights.proofs.Checking.{few, limits-exact}
+use Rattle.matrices.specs.Buffers.{matrixWords, matrixIn, cell, wordsAt, entryPlace, Formed}
+use Rattle.matrices.specs.Steps.{Matrix}
+use Rattle.matrices.proofs.Blocks.{blocks-cong}
+use Rattle.matrices.proofs.Entries.{matrix-self, matrix-cong, matrix-four}
+use Rattle.matrices.proofs.Malformed.{check-formed}
+use Rattle.routes.specs.Checks.{nodesCheck, lengthCheck, lawDCheck, lawUCheck, arcsCheck}
+use Rattle.routes.specs.Calls.{matrixOf}
+use Rattle.routes.proofs.Order.{nodes-passed, length-passed, unless-passes}
+use Rattle.routes.proofs.Bridge.{entry-padded}
+use Rattle.histories.proofs.Reached.{network, reached-formed, reached-reads}
+use Rattle.handover.specs.Calls.{bestWords, isBest}
+use Rattle.handover.proofs.Words.{words-exactly}
+use Rattle.handovers.specs.Handovers.{EveryEntryBest}
+
+-- what the checks of every call on A give: a lawful language whose limits are 16-bit numbers, n, and well-formed arcs
+pub record Lawfully (l : Language) (n : ℕ) (a : List ℕ) : Type 0 where
+  pub nodes : nodesCheck n ≡ Passed
+  pub sound : limitCheck l ≡ Passed
+  pub long : lengthCheck 1 n a ≡ Passed
+  pub law-D : lawDCheck (componentsOf l) ≡ Passed
+  pub law-U : lawUCheck (componentsOf l) ≡ Passed
+  pub arcs : arcsCheck (componentsOf l) n a ≡ Passed
+  pub limits : SmallLimits 65535 (componentsOf l)
+
+-- a matrix without a malformed entry has the words of its entries
+pub formed-words : (l : Language) (cap n : ℕ) (s : List ℕ) → Formed cap (componentsOf l) n s → matrixWords n (matrixOf l n s) ≡ s
+formed-words l cap n s f =
+    matrix-words (λ i j hi hj. sym (words-pad (matrixOf l n s i j)) ∙ ap words (entry-padded cap (componentsOf l) n s (few l) f i j hi hj)) ∙ matrix-self n s (f .square)
+  where
+    matrix-words : ((i j : ℕ) → i < n → j < n → words (matrixOf l n s i j) ≡ words (matrixIn places n s i j)) → matrixWords n (matrixOf l n s) ≡ matrixWords n (matrixIn places n s)
+    matrix-words e = blocks-cong _ _ n (λ i hi. blocks-cong _ _ n (λ j hj. e i j hi hj))
+
+module _ (l : Language) (n : ℕ) (a : List ℕ) (g : Lawfully l n a) where
+  abbrev cs : List Component
+  cs = componentsOf l
+
+  abbrev A : Matrix
+  A = matrixOf l n a
+
+  pub nodes-few : (1 ≤ n) × (n ≤ 16)
+  nodes-few = nodes-passed n (g .nodes)
+
+  pub D : testD cs ≡ true
+  D = unless-passes (testD cs) (Law 1 0) (g .law-D)
+
+  pub U : testU cs ≡ true
+  U = unless-passes (testU cs) (Law 2 0) (g .law-U)
+
+  pub S : Sound cs
+  S = limits-exact cs .0 (g .sound)
+
+  pub arcs : Formed arcSum cs n a
+  arcs = check-formed 1 arcSum cs n a (length-passed 1 n a (nodes-few .1) (g .long)) (g .arcs)
+
+  unfoldable pub net : Network
+  net = network cs (few l) (g .limits) S D U n a arcs
+
+  -- ---- the best matrix in a buffer
+
+  by-sweeps : (i j : ℕ) → i < n → best (language cs) n A i j ≡ reached (language cs) n A (sweeps n n) i j
+  unfolding net network
+  by-sweeps i j hi = best-by-sweeps net n (omega arith) i j hi
+
+  best-words : bestWords l n a ≡ matrixWords n (reached (language cs) n A (sweeps n n))
+  best-words = matrix-cong n (best (language cs) n A) (reached (language cs) n A (sweeps n n)) (λ i j hi hj. by-sweeps i j hi)
+
+  pub best-formed : Formed matrixSum cs n (bestWords l n a)
+  best-formed = subst (Formed matrixSum cs n) (sym best-words) (reached-formed cs (few l) (g .limits) S D U n a arcs (sweeps n n))
+
+  pub best-reads : (i j : ℕ) → i < n → j < n → matrixOf l n (bestWords l n a) i j ≡ best (language cs) n A i j
+  best-reads i j hi hj =
+      ap (λ (s : List ℕ). matrixOf l n s i j) best-words ∙ reached-reads cs (few l) (g .limits) S D U n a arcs (sweeps n n) i j hi hj ∙ sym (by-sweeps i j hi)
+
+  pub is-best : (i j : ℕ) → i < n → Best (language cs) n A i j (best (language cs) n A i j)
+  unfolding net network
+  is-best i j hi = best-is net i j hi
+
+  pub only-best : (i j : ℕ) → i < n → (w : Weight) → Best (language cs) n A i j w → w ≡ best (language cs) n A i j
+  unfolding net network
+  only-best i j hi w b = best-unique net b (best-is net i j hi)
+
+  -- an entry that is the best is read back from the words of its matrix
+  pub entry-reads : (R : Matrix) (i j : ℕ) → i < n → j < n → R i j ≡ best (language cs) n A i j → matrixOf l n (matrixWords n R) i j ≡ best (language cs) n A i j
+  unfolding cell
+  entry-reads R i j hi hj e =
+      let same : wordsAt (matrixWords n R) (entryPlace n i j) ≡ wordsAt (bestWords l n a) (entryPlace n i j) = matrix-four n R i j hi hj ∙ ap words e ∙ sym (matrix-four n (best (language cs) n A) i j hi hj) in
+      ap (decoded (length cs)) same ∙ best-reads i j hi hj
+
+  -- ---- the test
+
+  -- The test holds exactly where every entry is the best weight over paths that visit no node twice, and none is malformed.
+  pub test-exactly : (s : List ℕ) → (isBest l n a s ≡ true) ↔ EveryEntryBest l n a s
+  test-exactly s = (there, back)
+    where
+      there : isBest l n a s ≡ true → EveryEntryBest l n a s
+      there e =
+          let q = words-exactly s (bestWords l n a) .0 e in
+          record {
+            formed = subst (Formed matrixSum cs n) (sym q) best-formed;
+            best = λ i j hi hj. subst (Best (language cs) n A i j) (sym (ap (λ (t : List ℕ). matrixOf l n t i j) q ∙ best-reads i j hi hj)) (is-best i j hi);
+          }
+
+      back : EveryEntryBest l n a s → isBest l n a s ≡ true
+      back b =
+          words-exactly s (bestWords l n a) .1 (sym (formed-words l matrixSum n s (b .formed))
+          ∙ matrix-cong n (matrixOf l n s) (best (language cs) n A) (λ i j hi hj. only-best i j hi (matrixOf l n s i j) (b .best i j hi hj)))

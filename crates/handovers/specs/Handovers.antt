@@ -1,0 +1,27 @@
+-- What is said of handovers: when every entry is the best, and lists of steps that repair a matrix or cannot.
+-- To be believed: all of it. The theorems are in proofs/Tested, proofs/Recipe, proofs/Lent and proofs/Worked.
+use Prim.Native.Nat.{ℕ, _+_, _<_}
+use mathlib.Core.List.{List, [], _∷_}
+use Rattle.algebra.specs.Path.{Mem}
+use Rattle.algebra.specs.Best.{Best}
+use Rattle.weights.specs.declared.Language.{Language}
+use Rattle.weights.specs.Sizes.{matrixSum}
+use Rattle.weights.specs.Weights.{language}
+use Rattle.weights.specs.Languages.{componentsOf}
+use Rattle.matrices.specs.Buffers.{Formed}
+use Rattle.routes.specs.Checks.{firstSettle}
+use Rattle.routes.specs.Calls.{matrixOf}
+
+-- every entry of the matrix in s is the best weight over paths that visit no node twice, and none is malformed
+pub record EveryEntryBest (l : Language) (n : ℕ) (a s : List ℕ) : Type 0 where
+  pub formed : Formed matrixSum (componentsOf l) n s
+  pub best : (i j : ℕ) → i < n → j < n → Best (language (componentsOf l)) n (matrixOf l n a) i j (matrixOf l n s i j)
+
+-- every number of the list is a row step
+abbrev pub RowsOnly : ℕ → List ℕ → Type 0
+RowsOnly n [] = Unit {0}
+RowsOnly n (x ∷ list) = (x < n) × RowsOnly n list
+
+-- the list settles every column, in any order, with any other steps before, between and after
+abbrev pub SettlesAll : ℕ → List ℕ → Type 0
+SettlesAll n list = (j : ℕ) → j < n → Mem (firstSettle + j) list
