@@ -1,5 +1,5 @@
 -- The calls of a handover (01, "Forwarding and the next hop"): the checks in 01's order, which matrix lends, and the row that is lent.
--- To be believed: all of it. What `isBest` tests is proved exact: every entry is the best weight over paths that visit no node twice.
+-- To be believed: all of it. That `isBest` holds exactly where every entry is the best, and none malformed, is `test-exactly` (handovers/proofs/Tested).
 use Prim.Native.Nat.{ℕ, _+_, _*_}
 use mathlib.Core.Path.{_≡_}
 use mathlib.Core.Bool.{Bool, true, cond}
