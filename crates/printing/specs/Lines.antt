@@ -93,8 +93,16 @@ refusedLine t = line wordRefused (spaced (t .number ∷ t .which ∷ t .place �
 
 -- ---- by rows
 
-abbrev pub routeLines : ℕ → (ℕ → ℕ → Weight) → List ℕ
-routeLines n R = blocks n (λ i. blocks n (λ j. routeLine i j (R i j)))
+abbrev pub routeRow : ℕ → (ℕ → ℕ → Weight) → ℕ → List ℕ
+routeRow n R i = blocks n (λ j. routeLine i j (R i j))
 
+-- the R lines of a matrix
+abbrev pub routeLines : ℕ → (ℕ → ℕ → Weight) → List ℕ
+routeLines n R = blocks n (routeRow n R)
+
+abbrev pub entryRow : ℕ → ℕ → (ℕ → ℕ → Entry) → ℕ → List ℕ
+entryRow mode m F i = blocks m (λ d. entryLine mode i d (F i d))
+
+-- the F lines of a table
 abbrev pub entryLines : ℕ → ℕ → ℕ → (ℕ → ℕ → Entry) → List ℕ
-entryLines mode n m F = blocks n (λ i. blocks m (λ d. entryLine mode i d (F i d)))
+entryLines mode n m F = blocks n (entryRow mode m F)

@@ -1,3 +1,4 @@
 // The printed text: its lines, put one after the other into a lent buffer of bytes.
 pub mod lines;
 pub mod pieces;
+pub mod rows;
