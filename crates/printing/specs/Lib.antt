@@ -1,2 +1,2 @@
-pub mod Lines
-pub mod Parts
+pub mod Work
+pub mod Printed

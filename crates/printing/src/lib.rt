@@ -1,4 +1,3 @@
-// The printed text: its lines, put one after the other into a lent buffer of bytes.
-pub mod lines;
-pub mod pieces;
-pub mod rows;
+// The printed text of a problem file: what is worked out of it through the calls, and its text part after part.
+pub mod parts;
+pub mod work;

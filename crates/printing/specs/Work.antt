@@ -1,0 +1,41 @@
+-- What the print program has worked out of a problem (01, "The printed case"): sweeps of all rows from fresh, through the calls.
+-- To be believed: all of it.
+use Prim.Native.Nat.{ℕ, _-_, _*_}
+use mathlib.Core.List.{List, [], _∷_}
+use lib.ListN.{replicate}
+use Rattle.refusals.specs.declared.Check.{Check}
+use Rattle.refusals.specs.declared.Check.the-variants.{Passed, Refused}
+use Rattle.refusals.specs.declared.Told.{Told}
+use Rattle.refusals.specs.Told.{told}
+use Rattle.weights.specs.declared.Language.{Language}
+use Rattle.weights.specs.Sizes.{weightWords}
+use Rattle.matrices.specs.Buffers.{blocks}
+use Rattle.routes.specs.Calls.{freshCheck, freshLeft, stepsRow, stepsLeft}
+
+-- rows 0..n-1 in order
+abbrev pub sweep : ℕ → List ℕ
+sweep n = blocks n (λ i. i ∷ [])
+
+-- n-1 times
+abbrev pub sweeps : ℕ → List ℕ
+sweeps n = blocks (n - 1) (λ _. sweep n)
+
+-- where the first call is refused, its refusal; else the second call's row
+abbrev pub firstTold : Check → Told → Told
+firstTold (Refused r) t = told r
+firstTold Passed t = t
+
+-- The fresh call on a buffer r, then the step call with the sweeps: what is told, and what r holds then.
+unfoldable pub routesTold : Language → ℕ → List ℕ → List ℕ → Told
+routesTold l n a r = firstTold (freshCheck l n r) (stepsRow l n a (freshLeft l n r) (sweeps n) .told)
+
+abbrev pub routesLeftBy : Check → Language → ℕ → List ℕ → List ℕ → List ℕ
+routesLeftBy (Refused x) l n a r = r
+routesLeftBy Passed l n a r = stepsLeft l n a (freshLeft l n r) (sweeps n)
+
+unfoldable pub routesLeft : Language → ℕ → List ℕ → List ℕ → List ℕ
+routesLeft l n a r = routesLeftBy (freshCheck l n r) l n a r
+
+-- a buffer for an n x n matrix
+abbrev pub blank : ℕ → List ℕ
+blank n = replicate (n * (n * weightWords)) 0

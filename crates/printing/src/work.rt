@@ -1,0 +1,66 @@
+// The work: a list of sweeps over all rows, run from fresh.
+use refusals::Answer;
+use refusals::Told;
+use refusals::tell;
+use routes::StepsAnswer;
+use routes::fresh::fresh;
+use routes::steps::steps;
+use weights::Language;
+ghost use mathlib.Core.Path.{_≡_};
+ghost use Prim.Native.Nat.{_+_, _-_, _*_, _≤_, _<_};
+ghost use lib.ListN.{length};
+ghost use Rattle.decimals.specs.Texts.{Put};
+ghost use Rattle.printing.specs.Work.{sweep, sweeps, routesTold, routesLeft};
+
+// Puts 0..n-1 from `at` on.
+fn put_sweep(n: usize, at: usize, list: &mut [u32])
+    requires { ⌜ (n ≤ 16) × (at + n ≤ length (now list)) ⌝ }
+    ensures { λ _. ⌜ Put (n * 1) (now (list .entry)) at (sweep n) (now (list .exit)) (at + n) ⌝ }
+{
+    for i in 0..n {
+        list[at + i] = i as u32;
+    }
+}
+
+// Puts the sweeps at the front.
+fn put_sweeps(n: usize, list: &mut [u32])
+    requires { ⌜ (0 < n) × (n ≤ 16) × (240 ≤ length (now list)) ⌝ }
+    ensures { λ _. ⌜ Put ((n - 1) * n) (now (list .entry)) 0 (sweeps n) (now (list .exit)) ((n - 1) * n) ⌝ }
+{
+    let rounds = n - 1;
+    for t in 0..rounds {
+        put_sweep(n, t * n, list);
+    }
+}
+
+// Sweeps all rows n-1 times from fresh, on a buffer r; returns what the two calls tell.
+pub fn work_routes(l: Language, n: usize, a: &[u32], r: &mut [u32]) -> Told
+    requires { ⌜ (0 < n) × (n ≤ 16) ⌝ }
+    ensures { λ t. ⌜ t ≡ routesTold l n (now (a .entry)) (now (r .entry)) ⌝ }
+    ensures { λ _. ⌜ now (r .exit) ≡ routesLeft l n (now (a .entry)) (now (r .entry)) ⌝ }
+{
+    let mut list = [0u32; 240];
+    put_sweeps(n, &mut list);
+    let answer = fresh(l, n as u32, r);
+    match answer {
+        Answer::Refused(x) => {
+            return tell(x);
+        }
+        Answer::Done => {
+            let count = (n - 1) * n;
+            let ran = steps(l, n as u32, a, r, &list[..count]);
+            match ran {
+                StepsAnswer::Done(_) => {
+                    return Told {
+                        number: 0,
+                        which: 0,
+                        place: 0,
+                    };
+                }
+                StepsAnswer::Refused { refusal, done } => {
+                    return tell(refusal);
+                }
+            }
+        }
+    }
+}
