@@ -4,6 +4,7 @@ pub mod Whole
 pub mod TakenLanguage
 pub mod TakenLists
 pub mod Taken
+pub mod Sizes
 pub mod Cells
 pub mod WellFormed
 pub mod AreBytes

@@ -40,7 +40,7 @@ never-sound e = let z : _≡_ {A = ℕ} 0 1 = cc in absurd (omega arith)
 
 -- ---- the head
 
-record HeadAt (s : List ℕ) (next : ℕ) (h : Head) : Type 0 where
+pub record HeadAt (s : List ℕ) (next : ℕ) (h : Head) : Type 0 where
   pub fields : fieldsCheck s ≡ Passed
   pub found : Found
   pub taken : languageAt s 8 nothing ≡ Taken next found
@@ -49,7 +49,7 @@ record HeadAt (s : List ℕ) (next : ℕ) (h : Head) : Type 0 where
   pub mode-is : getD s 7 0 ≡ h .mode
   pub language-is : found .language ≡ h .language
 
-head-at : (s : List ℕ) (next : ℕ) (h : Head) → headRead s ≡ Sound next h → HeadAt s next h
+pub head-at : (s : List ℕ) (next : ℕ) (h : Head) → headRead s ≡ Sound next h → HeadAt s next h
 unfolding headRead
 head-at s next h e = go (fieldsCheck s) (languageAt s 8 nothing) refl refl e
   where
@@ -84,7 +84,7 @@ counted-head s next h e = go (countRight s) (headRead s) refl refl e
 
 -- ---- the bytes before the language
 
-record Fields (s : List ℕ) : Type 0 where
+pub record Fields (s : List ℕ) : Type 0 where
   pub version : getD s 4 0 ≡ 1
   pub nodes : (1 ≤ getD s 5 0) × (getD s 5 0 ≤ 16)
   pub destinations : getD s 6 0 ≤ 32
@@ -99,7 +99,7 @@ mode-room : (s : List ℕ) (b : Bool) → cond b (fieldCheck s 7 badMode 0 0) (f
 mode-room s true e = field-passes s 7 badMode 0 0 e .0
 mode-room s false e = field-passes s 7 badMode 1 3 e .0
 
-fields-at : (s : List ℕ) → fieldsCheck s ≡ Passed → Fields s
+pub fields-at : (s : List ℕ) → fieldsCheck s ≡ Passed → Fields s
 unfolding fieldsCheck
 fields-at s e =
     let a = both-pass (fieldCheck s 4 (Version 0 4) 1 1) _ e in

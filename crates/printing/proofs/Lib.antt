@@ -1,3 +1,4 @@
 pub mod Sweeping
 pub mod Parting
 pub mod Working
+pub mod Answered
