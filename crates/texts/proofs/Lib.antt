@@ -1,2 +1,3 @@
 pub mod Composing
 pub mod Growing
+pub mod Worked
