@@ -16,6 +16,7 @@ use Rattle.refusals.specs.declared.Check.the-variants.{Passed, Refused}
 use Rattle.refusals.specs.Told.{row, told, done}
 use Rattle.refusals.specs.Checks.{unless, firstOf, checkTold, Pass, Gives}
 use Rattle.refusals.proofs.OneToOne.{told-one, told-not-done}
+use Rattle.refusals.proofs.Exactly.{told-check}
 use Rattle.refusals.proofs.First.{passed-not, first-exactly, pass-first}
 use Rattle.algebra.specs.Step.{Solves}
 use Rattle.weights.specs.declared.Component.{Component}
@@ -48,10 +49,6 @@ use Rattle.forwarding.specs.Calls.{modeMeant, forwardChecks, forwardCheck}
 use Rattle.forwarded.specs.Table.{HoldsBest}
 
 -- ---- the call refuses x exactly when one of its checks gives x and all before it pass
-
-told-check : (c : Check) (x : Refusal) → (checkTold c ≡ told x) ↔ (c ≡ Refused x)
-told-check Passed x = (λ e. absurd (told-not-done x (sym e)), λ e. absurd (passed-not x e))
-told-check (Refused y) x = (λ e. ap Refused (told-one y x e), λ e. ap checkTold e)
 
 pub forward-refuses : (l : Language) (n m number : ℕ) (a r s f : List ℕ) (x : Refusal) → (checkTold (forwardCheck l n m number a r s f) ≡ told x) ↔ Gives (forwardChecks l n m number a r s f) x
 forward-refuses l n m number a r s f x =

@@ -54,8 +54,12 @@ module _ (l : Language) (n : ℕ) (a standing newer : List ℕ) (i : ℕ) where
         each : Pass (lengthCheck 1 n a ∷ lengthCheck 2 n newer ∷ lengthCheck 5 n standing ∷ [])
         each = first-passes (lengthCheck 1 n a ∷ lengthCheck 2 n newer ∷ lengthCheck 5 n standing ∷ []) eb
 
-        pub arcs-square : Square n a
+        arcs-square : Square n a
         arcs-square = length-passed 1 n a (nodes-passed n en .1) (each .0)
+
+        -- each of the three buffers has the words of an n x n matrix
+        pub squares : Square n a × Square n newer × Square n standing
+        squares = (arcs-square, length-passed 2 n newer (nodes-passed n en .1) (each .1 .0), length-passed 5 n standing (nodes-passed n en .1) (each .1 .1 .0))
 
         pub by-laws : {x : Refusal} → firstOf (lawDCheck (placesOf p) ∷ lawUCheck (placesOf p) ∷ []) ≡ Refused x → All ≡ Refused x
         by-laws e = order ∙ goes-on en (goes-on el (goes-on eb (stops _ (sym (laws-same l p placed) ∙ e))))
@@ -78,7 +82,7 @@ module _ (l : Language) (n : ℕ) (a standing newer : List ℕ) (i : ℕ) where
                 passes = go-on ef;
                 passing = o;
                 arcs = record { limits = o .limits; sound = o .sound; law-D = o .law-D; law-U = o .law-U; arcs = check-formed 1 arcSum (placesOf p) n a arcs-square (h .0) };
-                new-square = length-passed 2 n newer (o .few) (each .1 .0);
-                standing-square = length-passed 5 n standing (o .few) (each .1 .1 .0);
+                new-square = squares .1;
+                standing-square = squares .2;
                 node = node-passed 0 n i (h .1);
               }

@@ -21,7 +21,7 @@ use Rattle.weights.proofs.Checking.{few}
 use Rattle.matrices.specs.Buffers.{Square, Formed}
 use Rattle.matrices.proofs.Blocks.{block-room}
 use Rattle.routes.specs.Calls.{stepOf, stepsRow, stepsLeft}
-use Rattle.routes.proofs.Unique.{told-exactly}
+use Rattle.refusals.proofs.Exactly.{told-check}
 use Rattle.histories.specs.History.{Begun, held, ran, ColumnBest}
 use Rattle.histories.proofs.Reached.{reached-formed}
 use Rattle.histories.proofs.Histories.{history-demand-3}
@@ -39,7 +39,7 @@ module _ (l : Language) (n : ℕ) (a standing newer : List ℕ) (i : ℕ) where
 
   -- the call refuses x exactly when one of its checks gives x and all before it pass
   pub handover-refuses : (x : Refusal) → (checkTold check ≡ told x) ↔ Gives (handoverChecks l n a standing newer i) x
-  handover-refuses x = (λ e. first-exactly (handoverChecks l n a standing newer i) x .0 (told-exactly check x .0 e), λ g. told-exactly check x .1 (first-exactly (handoverChecks l n a standing newer i) x .1 g))
+  handover-refuses x = (λ e. first-exactly (handoverChecks l n a standing newer i) x .0 (told-check check x .0 e), λ g. told-check check x .1 (first-exactly (handoverChecks l n a standing newer i) x .1 g))
 
   pub lender-refuses : (x : Refusal) → (lenderRow l n a standing newer i .told ≡ told x) ↔ Gives (handoverChecks l n a standing newer i) x
   lender-refuses x = (λ e. handover-refuses x .0 (same check (isBest l n a newer) e), λ g. ap (λ (c : Check). lenderRowBy c (isBest l n a newer) .told) (first-exactly (handoverChecks l n a standing newer i) x .1 g))
@@ -62,7 +62,7 @@ module _ (l : Language) (n : ℕ) (a standing newer : List ℕ) (i : ℕ) where
 
   -- The part is empty exactly when the second call tells a refusal.
   pub empty-exactly : (lentRow l n a standing newer i ≡ []) ↔ ((x : Refusal) × (checkTold check ≡ told x))
-  empty-exactly = (λ e. there check refl e, λ h. ap (λ (c : Check). lentRowBy c (isBest l n a newer) n i standing newer) (told-exactly check (h .0) .0 (h .1)))
+  empty-exactly = (λ e. there check refl e, λ h. ap (λ (c : Check). lentRowBy c (isBest l n a newer) n i standing newer) (told-check check (h .0) .0 (h .1)))
     where
       there : (c : Check) → check ≡ c → lentRow l n a standing newer i ≡ [] → (x : Refusal) × (checkTold check ≡ told x)
       there Passed p e = absurd (let z : length (lentRow l n a standing newer i) ≡ 0 = ap length e in omega (arith, long p, sized l n a standing newer i p .some))

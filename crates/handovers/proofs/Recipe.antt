@@ -36,6 +36,8 @@ use Rattle.routes.proofs.Order.{nodes-passed, length-passed}
 use Rattle.histories.proofs.Reached.{network}
 use Rattle.handover.specs.Calls.{bestWords, isBest}
 use Rattle.handover.proofs.Words.{words-exactly}
+use Rattle.histories.proofs.Reached.{length-steps}
+use Rattle.histories.proofs.Histories.{settle-number, mem-steps}
 use Rattle.handovers.specs.Handovers.{RowsOnly, SettlesAll}
 use Rattle.handovers.proofs.Tested.{Lawfully, formed-words, net, entry-reads, only-best}
 
@@ -95,10 +97,6 @@ whole-run cs n A R (s ∷ steps) e = go (stepFits cs n A R s) e (whole-run cs n 
     go true q ih = ih (omega arith)
     go false q ih = absurd (omega arith)
 
-length-steps : (xs : List ℕ) → length (map stepOf xs) ≡ length xs
-length-steps [] = refl
-length-steps (x ∷ xs) = ap suc (length-steps xs)
-
 done-most : (cs : List Component) (n : ℕ) (A R : Matrix) (steps : List Step) → doneOf cs n A R steps ≤ length steps
 unfolding doneOf
 done-most cs n A R [] = omega arith
@@ -107,14 +105,6 @@ done-most cs n A R (s ∷ steps) = go (stepFits cs n A R s) (done-most cs n A (s
     go : (b : Bool) → doneOf cs n A (step (language cs) n A s R) steps ≤ length steps → cond b (suc (doneOf cs n A (step (language cs) n A s R) steps)) 0 ≤ suc (length steps)
     go true h = omega arith
     go false h = omega arith
-
-settle-number : (j : ℕ) → stepOf (firstSettle + j) ≡ settle j
-settle-number j = let e : firstSettle + j - firstSettle ≡ j = omega arith in rw (le-ltb (firstSettle + j) firstSettle (omega arith)) (ap settle e)
-
-mem-steps : (x : ℕ) (xs : List ℕ) → Mem x xs → Mem (stepOf x) (map stepOf xs)
-mem-steps x [] m = m
-mem-steps x (y ∷ xs) (inl e) = inl (ap stepOf e)
-mem-steps x (y ∷ xs) (inr m) = inr (mem-steps x xs m)
 
 module _ (l : Language) (n : ℕ) (a r list : List ℕ) (limits : SmallLimits 65535 (componentsOf l)) (d : stepsRow l n a r list .told ≡ done) where
   abbrev cs : List Component

@@ -32,7 +32,6 @@ use Rattle.histories.specs.Exact.{StepOver, StopsAt}
 use Rattle.histories.proofs.Reached.{length-steps}
 use Rattle.histories.proofs.Over.{step-over, step-fits}
 use Rattle.routes.specs.Calls.{matrixOf, freshCheck, matricesChecks, stepOf, stepFits, runOf, doneOf, StepsRow, ranRow, stepsRowBy, stepsRow, equationCheck, equationRow, equationRowBy, EquationRow}
-use Rattle.routes.proofs.Unique.{told-exactly}
 
 -- ---- 10: the law itself fails
 
@@ -56,11 +55,11 @@ pub fresh-refuses : (l : Language) (n : ℕ) (r : List ℕ) (x : Refusal) → (c
     ↔ Gives (nodesCheck n ∷ countCheck l ∷ limitCheck l ∷ lengthCheck 2 n r ∷ lawDCheck (componentsOf l) ∷ lawUCheck (componentsOf l) ∷ []) x
 fresh-refuses l n r x =
     let checks = nodesCheck n ∷ countCheck l ∷ limitCheck l ∷ lengthCheck 2 n r ∷ lawDCheck (componentsOf l) ∷ lawUCheck (componentsOf l) ∷ [] in
-    (λ e. first-exactly checks x .0 (told-exactly (freshCheck l n r) x .0 e), λ g. told-exactly (freshCheck l n r) x .1 (first-exactly checks x .1 g))
+    (λ e. first-exactly checks x .0 (told-check (freshCheck l n r) x .0 e), λ g. told-check (freshCheck l n r) x .1 (first-exactly checks x .1 g))
 
 pub equation-refuses : (l : Language) (n : ℕ) (a r : List ℕ) (x : Refusal) → (equationRow l n a r .told ≡ told x) ↔ Gives (matricesChecks l n a r []) x
 equation-refuses l n a r x = (
-  λ e. first-exactly (matricesChecks l n a r []) x .0 (told-exactly (equationCheck l n a r) x .0 (same (equationCheck l n a r) (solves (componentsOf l) n (matrixOf l n a) (matrixOf l n r)) e)),
+  λ e. first-exactly (matricesChecks l n a r []) x .0 (told-check (equationCheck l n a r) x .0 (same (equationCheck l n a r) (solves (componentsOf l) n (matrixOf l n a) (matrixOf l n r)) e)),
   λ g. ap (λ (c : Check). equationRowBy c (solves (componentsOf l) n (matrixOf l n a) (matrixOf l n r)) .told) (first-exactly (matricesChecks l n a r []) x .1 g),
 )
   where

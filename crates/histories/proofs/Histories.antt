@@ -44,14 +44,14 @@ use Rattle.refusals.specs.declared.Refusal.the-variants.{Law}
 
 -- ---- lists
 
-map-append : (xs ys : List ℕ) → map stepOf (xs ++ ys) ≡ map stepOf xs ++ map stepOf ys
+pub map-append : (xs ys : List ℕ) → map stepOf (xs ++ ys) ≡ map stepOf xs ++ map stepOf ys
 map-append [] ys = refl
 map-append (x ∷ xs) ys = ap (stepOf x ∷_) (map-append xs ys)
 
-settle-number : (j : ℕ) → stepOf (firstSettle + j) ≡ settle j
+pub settle-number : (j : ℕ) → stepOf (firstSettle + j) ≡ settle j
 settle-number j = let e : firstSettle + j - firstSettle ≡ j = omega arith in rw (le-ltb (firstSettle + j) firstSettle (omega arith)) (ap settle e)
 
-mem-steps : (x : ℕ) (xs : List ℕ) → Mem x xs → Mem (stepOf x) (map stepOf xs)
+pub mem-steps : (x : ℕ) (xs : List ℕ) → Mem x xs → Mem (stepOf x) (map stepOf xs)
 mem-steps x [] m = m
 mem-steps x (y ∷ xs) (inl e) = inl (ap stepOf e)
 mem-steps x (y ∷ xs) (inr m) = inr (mem-steps x xs m)

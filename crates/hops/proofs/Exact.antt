@@ -15,7 +15,7 @@ use Rattle.weights.specs.declared.Language.{Language}
 use Rattle.weights.specs.Languages.{componentsOf}
 use Rattle.routes.specs.Checks.{nodeCheck}
 use Rattle.routes.specs.Calls.{matrixOf, matricesChecks}
-use Rattle.routes.proofs.Unique.{told-exactly}
+use Rattle.refusals.proofs.Exactly.{told-check}
 use Rattle.hops.specs.NextHop.{hopOf, NextHop}
 use Rattle.hops.specs.Calls.{hopCheck, hopRowBy, hopRow}
 use Rattle.hops.proofs.Rule.{hop-exactly}
@@ -30,7 +30,7 @@ module _ (l : Language) (n : ℕ) (a r : List ℕ) (i j : ℕ) where
   -- the call refuses x exactly when one of its checks gives x and all before it pass
   pub hop-refuses : (x : Refusal) → (hopRow l n a r i j .told ≡ told x) ↔ Gives checks x
   hop-refuses x = (
-    λ e. first-exactly checks x .0 (told-exactly (hopCheck l n a r i j) x .0 (same (hopCheck l n a r i j) rule e)),
+    λ e. first-exactly checks x .0 (told-check (hopCheck l n a r i j) x .0 (same (hopCheck l n a r i j) rule e)),
     λ g. ap (λ (c : Check). hopRowBy c rule .told) (first-exactly checks x .1 g),
   )
     where

@@ -25,11 +25,6 @@ use Rattle.routes.specs.declared.Ready.the-variants.{Given as Places-giv
 use Rattle.routes.specs.Calls.{freshCheck, StepsRow, stepsRow, stepsSaid, EquationRow, equationRow, equationSaid, matricesChecks}
 use Rattle.routes.specs.Ready.{FreshReady, MatricesReady}
 
--- a check tells a refusal exactly when it gives it
-pub told-exactly : (c : Check) (r : Refusal) → (checkTold c ≡ told r) ↔ (c ≡ Refused r)
-told-exactly Passed r = (λ e. absurd (told-not-done r (sym e)), λ e. absurd (passed-not r e))
-told-exactly (Refused s) r = (λ e. ap Refused (told-one s r e), λ e. ap checkTold e)
-
 pub fresh-answers-equal : (l : Language) (n : ℕ) (r : List ℕ) (x y : Answer) → answerTold x ≡ checkTold (freshCheck l n r) → answerTold y ≡ checkTold (freshCheck l n r) → x ≡ y
 fresh-answers-equal l n r x y p q = answer-one x y (p ∙ sym q)
 

@@ -1,6 +1,7 @@
 use mathlib.Core.Path.{sym, _∙_}
+use native.Mathlib.Omega.{arith}
 use Rattle.routes.proofs.Order.{nodes-passed}
-use Rattle.handover.proofs.Order.{by-nodes, by-language, by-lengths, arcs-square, by-laws, by-arcs, all-pass}
+use Rattle.handover.proofs.Order.{by-nodes, by-language, by-lengths, squares, by-laws, by-arcs, all-pass}
 use borrow.Author.Needs.{needs}
 use Rattle.handover.proofs.checks.ready.Statement.{statement}
 use Rattle.handover.proofs.checks.ready.Tie as tie
@@ -48,7 +49,8 @@ check-arcs-requires c κs =
     let p = c .before .before .before .before .before .before .before .p .given in
     let says = rw (p .1) at (c .before .before .before .before .before .before .before .before .before .check .ensures) in
     let lengths = sym (c .before .before .before .before .before .check-lengths .ensures) ∙ c .before .before .before .enum-told2 .given .1 in
-    arcs-square (args .l) (args .n) (args .a .now) (args .standing .now) (args .newer .now) (args .i) nodes (p .0 .0) (says .0) (says .1) lengths
+    let q = squares (args .l) (args .n) (args .a .now) (args .standing .now) (args .newer .now) (args .i) nodes (p .0 .0) (says .0) (says .1) lengths in
+    record { few = q .0 .few; long = omega (arith, q .0 .long, q .1 .long, q .2 .long) }
 
 enum-known-x-5 : tie.Need-enum-known-x-5
 enum-known-x-5 c = search needs
