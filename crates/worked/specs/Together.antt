@@ -1,0 +1,126 @@
+-- 01's "Proved together": P1 to P9, about the definitions alone.
+-- To be believed: all of it, beside 01's own lines. That it holds is the theorem `proved-together` (proofs/Proved).
+use Prim.Native.Nat.{ℕ, zero, suc, _+_, _*_, _<_}
+use mathlib.Core.Path.{_≡_}
+use mathlib.Core.Bool.{true}
+use mathlib.Core.List.{List, [], _∷_}
+use lib.ListN.{length, getD, replicate}
+use Rattle.refusals.specs.declared.Refusal.the-variants.{NoSuch}
+use Rattle.refusals.specs.Told.{told, done}
+use Rattle.algebra.specs.Best.{Best, best}
+use Rattle.algebra.specs.Step.{fresh, reached, sweeps}
+use Rattle.algebra.specs.Modes.{forwarded}
+use Rattle.weights.specs.declared.Component.{Component}
+use Rattle.weights.specs.declared.Component.the-variants.{Dist, Width, Gain}
+use Rattle.weights.specs.declared.Language.{Language}
+use Rattle.weights.specs.Sizes.{weightWords, ones}
+use Rattle.weights.specs.Weights.{Weight, none, route, language}
+use Rattle.weights.specs.Laws.{LawD, LawU, LawC, BreaksD, BreaksU}
+use Rattle.weights.specs.Languages.{componentsOf}
+use Rattle.matrices.specs.Steps.{Matrix, solves}
+use Rattle.tables.specs.declared.Mode.{Mode}
+use Rattle.tables.specs.declared.Mode.the-variants.{Hot}
+use Rattle.tables.specs.declared.Chosen.the-variants.{Fits}
+use Rattle.tables.specs.Entries.{Entry, mapped, modeOf, modeFor}
+use Rattle.tables.specs.Tables.{tableIn}
+use Rattle.routes.specs.Calls.{matrixOf, freshLeft, stepsRow, StepsRow}
+use Rattle.fields.specs.declared.Head.{Head}
+use Rattle.fields.specs.declared.HeadRead.{HeadRead}
+use Rattle.fields.specs.declared.HeadRead.the-variants.{Sound}
+use Rattle.records.specs.declared.Listing.the-variants.{Arcs, Attachments}
+use Rattle.fields.specs.Bytes.{twoAt}
+use Rattle.records.specs.Records.{listEnd}
+use Rattle.files.specs.File.{fileRead}
+use Rattle.files.specs.Contents.{tableWords}
+
+-- ---- 01's input
+
+-- 00000021 01030103 01 0003 00010002 00020009 01020003 0002 010000000007 020000000004, with a mode byte of its own
+abbrev pub printedFile : ℕ → List ℕ
+printedFile mode =
+    0 ∷ 0 ∷ 0 ∷ 33 ∷ 1 ∷ 3 ∷ 1 ∷ mode ∷ 1 ∷ 0 ∷ 3
+    ∷ 0 ∷ 1 ∷ 0 ∷ 2 ∷ 0 ∷ 2 ∷ 0 ∷ 9 ∷ 1 ∷ 2 ∷ 0 ∷ 3
+    ∷ 0 ∷ 2 ∷ 1 ∷ 0 ∷ 0 ∷ 0 ∷ 0 ∷ 7 ∷ 2 ∷ 0 ∷ 0 ∷ 0 ∷ 0 ∷ 4 ∷ []
+
+-- the arcs and the mapping that a file lists, where its header ends at next
+abbrev pub arcsRead : List ℕ → ℕ → Head → Matrix
+arcsRead s next h = matrixOf (h .language) (h .n) (tableWords s h Arcs (next + 2) (twoAt s next))
+
+abbrev pub mappingRead : List ℕ → ℕ → Head → ℕ → ℕ → Entry
+mappingRead s next h =
+    tableIn (length (componentsOf (h .language))) (h .m) (tableWords s h Attachments (listEnd s h Arcs next + 2) (twoAt s (listEnd s h Arcs next)))
+
+-- dist alone, three nodes, one destination
+abbrev pub printedHead : ℕ → Head
+printedHead mode = record { n = 3; m = 1; mode = mode; language = record { count = 1; first = Dist; second = Dist; third = Dist; fourth = Dist } }
+
+abbrev pub distance : List Component
+distance = Dist ∷ []
+
+-- ---- matrices written out
+
+abbrev pub written : List (List Weight) → Matrix
+written rows i j = getD (getD rows i []) j none
+
+-- two matrices have the same n x n entries
+abbrev pub Same : ℕ → Matrix → Matrix → Type 0
+Same n R S = (i j : ℕ) → i < n → j < n → R i j ≡ S i j
+
+-- R 0 0 0, R 0 1 2, R 0 2 5, R 1 0 -, .., R 2 2 0
+abbrev pub printedMatrix : Matrix
+printedMatrix =
+    written
+    ((route (0 ∷ []) ∷ route (2 ∷ []) ∷ route (5 ∷ []) ∷ [])
+    ∷ (none ∷ route (0 ∷ []) ∷ route (3 ∷ []) ∷ [])
+    ∷ (none ∷ none ∷ route (0 ∷ []) ∷ []) ∷ [])
+
+abbrev pub ten : Weight
+ten = route (10 ∷ [])
+
+-- arcs 0 to 1 and 1 to 0 of 10
+abbrev pub depotArcs : Matrix
+depotArcs = written ((none ∷ ten ∷ none ∷ []) ∷ (ten ∷ none ∷ none ∷ []) ∷ (none ∷ none ∷ none ∷ []) ∷ [])
+
+-- R(0,2) = R(1,2) = 10, no route from 2 to 0 or 1, and 10 elsewhere
+abbrev pub depotRoutes : Matrix
+depotRoutes = written ((ten ∷ ten ∷ ten ∷ []) ∷ (ten ∷ ten ∷ ten ∷ []) ∷ (none ∷ none ∷ ten ∷ []) ∷ [])
+
+-- ---- sixteen nodes without an arc, dist alone
+
+abbrev pub sixteenLanguage : Language
+sixteenLanguage = record { count = 1; first = Dist; second = Dist; third = Dist; fourth = Dist }
+
+abbrev pub sixteenArcs : List ℕ
+sixteenArcs = replicate (16 * (16 * weightWords)) ones
+
+-- a step call with one step, on the fresh matrix
+abbrev pub oneStep : ℕ → StepsRow
+oneStep x = stepsRow sixteenLanguage 16 sixteenArcs (freshLeft sixteenLanguage 16 sixteenArcs) (x ∷ [])
+
+-- ---- the list
+
+pub record ProvedTogether : Type 0 where
+  -- (P1) dist, width 9: laws D, U held, C broken
+  pub P1 : LawD (Dist ∷ Width 9 ∷ []) × LawU (Dist ∷ Width 9 ∷ []) × (LawC (Dist ∷ Width 9 ∷ []) → ⊥)
+  -- (P2) width 9, dist: D broken by s (1,0), x (9,1), y (1,0)
+  pub P2 : BreaksD (Width 9 ∷ Dist ∷ []) (route (1 ∷ 0 ∷ [])) (route (9 ∷ 1 ∷ [])) (route (1 ∷ 0 ∷ []))
+  -- (P3) width 1, dist: all held
+  pub P3 : LawD (Width 1 ∷ Dist ∷ []) × LawU (Width 1 ∷ Dist ∷ []) × LawC (Width 1 ∷ Dist ∷ [])
+  -- (P4) gain: D, C held, U broken by 1
+  pub P4 : LawD (Gain ∷ []) × LawC (Gain ∷ []) × BreaksU (Gain ∷ []) (route (1 ∷ []))
+  -- (P5) the printed matrix: from 01's bytes, two sweeps from fresh give it, and it is the best
+  pub P5 :
+      (fileRead (printedFile 3) ≡ Sound 9 (printedHead 3))
+      × Same 3 (reached (language distance) 3 (arcsRead (printedFile 3) 9 (printedHead 3)) (sweeps 3 2)) printedMatrix
+      × ((i j : ℕ) → i < 3 → j < 3 → Best (language distance) 3 (arcsRead (printedFile 3) 9 (printedHead 3)) i j (printedMatrix i j))
+  -- (P6) the same file in hot mode: F(0,0) is 2 with t 7
+  pub P6 :
+      (fileRead (printedFile 2) ≡ Sound 9 (printedHead 2))
+      × (modeFor distance 1 2 ≡ Fits Hot)
+      × (forwarded (language distance) (modeOf Hot distance) 3 printedMatrix (mappingRead (printedFile 2) 9 (printedHead 2)) 0 0 ≡ mapped (2 ∷ []) 7)
+  -- (P7) n = 1 with self-arc 5: fresh is best
+  pub P7 : Best (language distance) 1 (written ((route (5 ∷ []) ∷ []) ∷ [])) 0 0 (fresh (language distance) 0 0)
+  -- (P8) width 10, the two depots: the matrix satisfies the equation, yet the best from 0 to 2 is no route
+  pub P8 : (solves (Width 10 ∷ []) 3 depotArcs depotRoutes ≡ true) × Best (language (Width 10 ∷ [])) 3 depotArcs 0 2 none
+  -- (P9) step 15 with n = 16 runs, step 16 is refused
+  pub P9 : (oneStep 15 ≡ record { told = done; done = 1 }) × (oneStep 16 ≡ record { told = told (NoSuch 0 0); done = 0 })
