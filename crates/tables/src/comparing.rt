@@ -26,11 +26,8 @@ fn better_hot(p: Places, x: Weight, t: u32, y: Weight, u: u32) -> bool
 fn better_cold(p: Places, x: Weight, t: u32, y: Weight, u: u32) -> bool
     ensures { λ r. ⌜ r ≡ byTThenWeight ltb (placesOf p) (weightOf x) t (weightOf y) u ⌝ }
 {
-    if t < u {
-        return true;
-    }
-    if u < t {
-        return false;
+    if t != u {
+        return t < u;
     }
     weights::comparing::better(p, x, y)
 }

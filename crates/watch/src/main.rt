@@ -6,6 +6,7 @@ mod showing;
 mod telling;
 
 fn main() {
+    scenes::words();
     scenes::before();
     scenes::lost();
     scenes::swept();

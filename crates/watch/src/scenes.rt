@@ -14,6 +14,22 @@ fn standing_matrix(r: &mut [u32]) {
     routes::steps::steps(network::language(), network::NODES, &a, r, &sweeps);
 }
 
+// What the words on the screens mean.
+pub fn words() {
+    showing::title(b"Words");
+    showing::say(b"A matrix holds what the route from each node to each other carries.\n");
+    showing::say(b"Fresh: each node reaches itself, and nothing else is known yet.\n");
+    showing::say(b"Row step of a node: its routes worked out anew, link by link, from what the\n");
+    showing::say(
+        b"  matrix says of the nodes at the other end. A sweep: a row step of each node.\n",
+    );
+    showing::say(b"The equation balances: no row step would change anything.\n");
+    showing::say(b"Settle of a column: the routes to one node worked out from the links alone.\n");
+    showing::say(b"The best: what the best path carries that visits no node twice.\n");
+    showing::say(b"An arc is tight where it gives the route over it what it carries.\n");
+    showing::say(b"Lent: the forwarder reads a row of the new matrix or of the standing one.\n");
+}
+
 pub fn before() {
     let mut a = network::no_links();
     network::links_before(&mut a);
@@ -28,7 +44,6 @@ pub fn before() {
     showing::say(b"\n");
     telling::equation(&a, &standing);
     telling::tight_arcs(&a, &standing);
-    showing::say(b"\nAn arc is tight where it gives the route over it its weight.\n");
 }
 
 pub fn lost() {
@@ -53,44 +68,34 @@ fn look(a: &[u32], standing: &[u32], old: &[u32], r: &[u32]) {
     telling::lent(a, standing, r);
 }
 
-// Runs steps on the new matrix and shows what they leave.
-fn screen(head: &[u8], a: &[u32], standing: &[u32], r: &mut [u32], list: &[u32]) {
+// The matrix that an engine is started from, before any step.
+fn start(head: &[u8], a: &[u32], standing: &[u32], r: &[u32]) {
+    showing::title(head);
+    look(a, standing, r, r);
+}
+
+// Runs one step of a node on the new matrix, and shows what it leaves.
+fn step(head: &[u8], number: u32, node: u32, a: &[u32], standing: &[u32], r: &mut [u32]) {
     let mut old = network::no_links();
     network::copy(r, &mut old);
-    routes::steps::steps(network::language(), network::NODES, a, r, list);
-    showing::title(head);
+    let list = [number];
+    routes::steps::steps(network::language(), network::NODES, a, r, &list);
+    showing::title_of(head, node);
     look(a, standing, &old, r);
 }
 
-fn sweep_old(a: &[u32], standing: &[u32], r: &mut [u32]) {
-    screen(
-        b"Old matrix, first sweep: row step North",
-        a,
-        standing,
-        r,
-        &[0u32],
-    );
-    screen(
-        b"Old matrix, first sweep: row step South",
-        a,
-        standing,
-        r,
-        &[1u32],
-    );
-    screen(
-        b"Old matrix, first sweep: row step server",
-        a,
-        standing,
-        r,
-        &[2u32],
-    );
-    screen(
-        b"Old matrix, second sweep: all three rows",
-        a,
-        standing,
-        r,
-        &[0u32, 1, 2],
-    );
+// A row step of each node.
+fn sweep(head: &[u8], a: &[u32], standing: &[u32], r: &mut [u32]) {
+    step(head, 0, network::NORTH, a, standing, r);
+    step(head, 1, network::SOUTH, a, standing, r);
+    step(head, 2, network::SERVER, a, standing, r);
+}
+
+// A settle of each column.
+fn settles(head: &[u8], a: &[u32], standing: &[u32], r: &mut [u32]) {
+    step(head, 256, network::NORTH, a, standing, r);
+    step(head, 257, network::SOUTH, a, standing, r);
+    step(head, 258, network::SERVER, a, standing, r);
 }
 
 // The old matrix, swept.
@@ -101,47 +106,28 @@ pub fn swept() {
     standing_matrix(&mut standing);
     let mut r = network::no_links();
     network::copy(&standing, &mut r);
-    screen(
+    start(
         b"The new engine is started from the old matrix",
         &a,
         &standing,
-        &mut r,
-        &[],
+        &r,
     );
     showing::say(b"\nEach depot's route leans on the other's; orders would go round in circles.\n");
-    sweep_old(&a, &standing, &mut r);
+    showing::say(b"The standing matrix is the old one too: the forwarder keeps what it has, no\n");
+    showing::say(b"better and no worse, until a best matrix takes its place.\n");
+    sweep(
+        b"Old matrix, first sweep: row step of ",
+        &a,
+        &standing,
+        &mut r,
+    );
+    sweep(
+        b"Old matrix, second sweep: row step of ",
+        &a,
+        &standing,
+        &mut r,
+    );
     showing::say(b"\nThe equation balances, so no list of row steps will ever change it.\n");
-}
-
-fn sweep_fresh(a: &[u32], standing: &[u32], r: &mut [u32]) {
-    screen(
-        b"From fresh, first sweep: row step North",
-        a,
-        standing,
-        r,
-        &[0u32],
-    );
-    screen(
-        b"From fresh, first sweep: row step South",
-        a,
-        standing,
-        r,
-        &[1u32],
-    );
-    screen(
-        b"From fresh, first sweep: row step server",
-        a,
-        standing,
-        r,
-        &[2u32],
-    );
-    screen(
-        b"From fresh, second sweep: all three rows",
-        a,
-        standing,
-        r,
-        &[0u32, 1, 2],
-    );
 }
 
 // The same from fresh.
@@ -152,14 +138,24 @@ pub fn from_fresh() {
     standing_matrix(&mut standing);
     let mut r = network::no_links();
     routes::fresh::fresh(network::language(), network::NODES, &mut r);
-    screen(
+    start(
         b"The new engine is started from fresh instead",
         &a,
         &standing,
-        &mut r,
-        &[],
+        &r,
     );
-    sweep_fresh(&a, &standing, &mut r);
+    sweep(
+        b"From fresh, first sweep: row step of ",
+        &a,
+        &standing,
+        &mut r,
+    );
+    sweep(
+        b"From fresh, second sweep: row step of ",
+        &a,
+        &standing,
+        &mut r,
+    );
     showing::say(b"\nTwo sweeps from fresh, n - 1 of them, always end in the best.\n");
 }
 
@@ -171,26 +167,11 @@ pub fn settled() {
     standing_matrix(&mut standing);
     let mut r = network::no_links();
     network::copy(&standing, &mut r);
-    screen(
-        b"The repair, on the old matrix: settle column North",
+    settles(
+        b"The repair, on the old matrix: settle of column ",
         &a,
         &standing,
         &mut r,
-        &[256u32],
-    );
-    screen(
-        b"The repair, on the old matrix: settle column South",
-        &a,
-        &standing,
-        &mut r,
-        &[257u32],
-    );
-    screen(
-        b"The repair, on the old matrix: settle column server",
-        &a,
-        &standing,
-        &mut r,
-        &[258u32],
     );
     showing::say(
         b"\nA settle does not look at what its column held: n settles repair every matrix.\n",

@@ -13,6 +13,14 @@ pub fn title(text: &[u8]) {
     say(b"\n----------------------------------------------------------------------\n");
 }
 
+// The same, with the name of a node at its end.
+pub fn title_of(text: &[u8], node: u32) {
+    say(b"\n----------------------------------------------------------------------\n");
+    say(text);
+    name(node);
+    say(b"\n----------------------------------------------------------------------\n");
+}
+
 pub fn name(node: u32) {
     match node {
         0 => say(b"North"),
