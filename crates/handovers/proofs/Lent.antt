@@ -3,7 +3,7 @@
 use Prim.Native.Nat.{ℕ, suc, _*_, _≤_, _<_}
 use mathlib.Core.Path.{_≡_, refl, sym, ap, ap₂, subst, _∙_}
 use mathlib.Core.Bool.{Bool, true, false}
-use mathlib.Core.List.{List, [], map}
+use mathlib.Core.List.{List, [], _∷_, map}
 use mathlib.Core.Logic.{_⊎_, inl, inr, _↔_}
 use native.Mathlib.Omega.{arith}
 use lib.ListN.{length, length-take, length-drop}
@@ -12,15 +12,17 @@ use Rattle.refusals.specs.declared.Check.{Check}
 use Rattle.refusals.specs.declared.Check.the-variants.{Passed, Refused}
 use Rattle.refusals.specs.Told.{told, done}
 use Rattle.refusals.specs.Checks.{checkTold, Gives}
-use Rattle.refusals.proofs.First.{first-exactly, first-passes}
+use Rattle.refusals.proofs.First.{first-exactly, first-passes, pass-first}
 use Rattle.algebra.specs.Step.{Stretches}
 use Rattle.weights.specs.declared.Language.{Language}
 use Rattle.weights.specs.Sizes.{weightWords, matrixSum}
-use Rattle.weights.specs.Languages.{componentsOf, SmallLimits}
+use Rattle.weights.specs.Languages.{componentsOf, countCheck, limitCheck, SmallLimits}
 use Rattle.weights.proofs.Checking.{few}
 use Rattle.matrices.specs.Buffers.{Square, Formed}
 use Rattle.matrices.proofs.Blocks.{block-room}
+use Rattle.routes.specs.Checks.{nodesCheck, lengthCheck, lawDCheck, lawUCheck}
 use Rattle.routes.specs.Calls.{stepOf, stepsRow, stepsLeft}
+use Rattle.routes.proofs.Order.{length-same, node-in}
 use Rattle.refusals.proofs.Exactly.{told-check}
 use Rattle.histories.specs.History.{Begun, held, ran, ColumnBest}
 use Rattle.histories.proofs.Reached.{reached-formed}
@@ -29,7 +31,13 @@ use Rattle.handover.specs.Calls.{handoverChecks, handoverCheck, isBest, lenderR
 use Rattle.handover.proofs.Answers.{sized}
 use Rattle.handovers.specs.Handovers.{EveryEntryBest, SettlesAll}
 use Rattle.handovers.proofs.Tested.{Lawfully, S, D, U, arcs, test-exactly}
-use Rattle.handovers.proofs.Recipe.{settled-is-best}
+use Rattle.handovers.proofs.Recipe.{lawfully as called, left-long, settled-is-best}
+
+-- the checks of a handover: what every call on A gives, two matrices of the right length, and a node
+pub handover-passes : (l : Language) (n : ℕ) (a standing newer : List ℕ) (i : ℕ) → Lawfully l n a → length newer ≡ n * (n * weightWords) → length standing ≡ n * (n * weightWords) → i < n → handoverCheck l n a standing newer i ≡ Passed
+handover-passes l n a standing newer i g e f h =
+    pass-first (handoverChecks l n a standing newer i)
+    (g .nodes, (g .count, (g .sound, (g .long, (sym (length-same 2 n newer e), (sym (length-same 5 n standing f), (g .law-D, (g .law-U, (g .arcs, (sym (node-in 0 n i h), tt))))))))))
 
 module _ (l : Language) (n : ℕ) (a standing newer : List ℕ) (i : ℕ) where
   abbrev check : Check
@@ -75,11 +83,15 @@ module _ (l : Language) (n : ℕ) (a standing newer : List ℕ) (i : ℕ) where
   pub new-row-lent : check ≡ Passed → isBest l n a newer ≡ true → lentRow l n a standing newer i ≡ rowPart n i newer
   new-row-lent p q = by-test true p q
 
+  -- it does not: the standing one's is
+  pub standing-row-lent : check ≡ Passed → isBest l n a newer ≡ false → lentRow l n a standing newer i ≡ rowPart n i standing
+  standing-row-lent p q = by-test false p q
+
   module _ (limits : SmallLimits 65535 (componentsOf l)) (p : check ≡ Passed) where
     lawfully : Lawfully l n a
     lawfully =
         let h = first-passes (handoverChecks l n a standing newer i) p in
-        record { nodes = h .0; sound = h .1 .1 .0; long = h .1 .1 .1 .0; law-D = h .1 .1 .1 .1 .1 .1 .0; law-U = h .1 .1 .1 .1 .1 .1 .1 .0; arcs = h .1 .1 .1 .1 .1 .1 .1 .1 .0; limits = limits }
+        record { nodes = h .0; count = h .1 .0; sound = h .1 .1 .0; long = h .1 .1 .1 .0; law-D = h .1 .1 .1 .1 .1 .1 .0; law-U = h .1 .1 .1 .1 .1 .1 .1 .0; arcs = h .1 .1 .1 .1 .1 .1 .1 .1 .0; limits = limits }
 
     -- The new matrix's row is lent where every entry of it is the best ..
     pub best-lends-new : EveryEntryBest l n a newer → lentRow l n a standing newer i ≡ rowPart n i newer
@@ -95,29 +107,38 @@ module _ (l : Language) (n : ℕ) (a standing newer : List ℕ) (i : ℕ) where
 
 -- ---- a history of calls
 
-module _ (l : Language) (n : ℕ) (a r standing : List ℕ) (i : ℕ) (b : Begun l n a r) (lists : List (List ℕ)) (p : handoverCheck l n a standing (held l n a r lists) i ≡ Passed) where
+module _ (l : Language) (n : ℕ) (a r : List ℕ) (b : Begun l n a r) (lists : List (List ℕ)) where
   abbrev newer : List ℕ
   newer = held l n a r lists
 
-  abbrev known : Lawfully l n a
-  known = lawfully l n a standing newer i (b .limits) p
+  known : Lawfully l n a
+  known =
+      let h = first-passes (nodesCheck n ∷ countCheck l ∷ limitCheck l ∷ lengthCheck 2 n r ∷ lawDCheck (componentsOf l) ∷ lawUCheck (componentsOf l) ∷ []) (b .fresh-done) in
+      record { nodes = h .0; count = h .1 .0; sound = h .1 .1 .0; long = b .arcs-long; law-D = h .1 .1 .1 .1 .0; law-U = h .1 .1 .1 .1 .1 .0; arcs = b .arcs-formed; limits = b .limits }
 
   history-formed : Formed matrixSum (componentsOf l) n newer
   history-formed =
       subst (Formed matrixSum (componentsOf l) n) (sym (history-demand-3 l n a r b lists .reaches))
       (reached-formed (componentsOf l) (few l) (b .limits) (S l n a known) (D l n a known) (U l n a known) n a (arcs l n a known) (map stepOf (ran l n a r lists)))
 
-  -- Where the steps of the history settle every column, or contain n - 1 stretches, the new row is the one lent.
-  pub history-lends-new : SettlesAll n (ran l n a r lists) ⊎ ((m : ℕ) × (n ≤ suc m) × Stretches n m (map stepOf (ran l n a r lists))) → lentRow l n a standing newer i ≡ rowPart n i newer
-  history-lends-new h = best-lends-new l n a standing newer i (b .limits) p (record { formed = history-formed; best = λ u j hu hj. columns h j hj u hu })
+  history-best : SettlesAll n (ran l n a r lists) ⊎ ((m : ℕ) × (n ≤ suc m) × Stretches n m (map stepOf (ran l n a r lists))) → EveryEntryBest l n a newer
+  history-best h = record { formed = history-formed; best = λ u j hu hj. columns h j hj u hu }
     where
       columns : SettlesAll n (ran l n a r lists) ⊎ ((m : ℕ) × (n ≤ suc m) × Stretches n m (map stepOf (ran l n a r lists))) → (j : ℕ) → j < n → ColumnBest l n a r lists j
       columns (inl s) j hj = history-demand-3 l n a r b lists .settled j hj (s j hj)
       columns (inr (m, k, t)) j hj = history-demand-3 l n a r b lists .swept m k t j hj
 
+  -- Where the steps of the history settle every column, or contain n - 1 stretches, the new row is the one lent, for every node.
+  pub history-lends-new : SettlesAll n (ran l n a r lists) ⊎ ((m : ℕ) × (n ≤ suc m) × Stretches n m (map stepOf (ran l n a r lists)))
+      → (standing : List ℕ) (i : ℕ) → length standing ≡ n * (n * weightWords) → i < n → lentRow l n a standing newer i ≡ rowPart n i newer
+  history-lends-new h standing i e hi = best-lends-new l n a standing newer i (b .limits) (handover-passes l n a standing newer i known (history-formed .square .long) e hi) (history-best h)
+
 -- ---- the recipe
 
--- After a done call that settles every column the new row is the one lent, whatever the buffer held before.
+-- After a done call that settles every column the new row is the one lent, for every node, whatever the buffer held before.
 pub settling-lends-new : (l : Language) (n : ℕ) (a r list standing : List ℕ) (i : ℕ) → SmallLimits 65535 (componentsOf l) → stepsRow l n a r list .told ≡ done → SettlesAll n list
-    → handoverCheck l n a standing (stepsLeft l n a r list) i ≡ Passed → lentRow l n a standing (stepsLeft l n a r list) i ≡ rowPart n i (stepsLeft l n a r list)
-settling-lends-new l n a r list standing i limits d all p = new-row-lent l n a standing (stepsLeft l n a r list) i p (settled-is-best l n a r list limits d all)
+    → length standing ≡ n * (n * weightWords) → i < n → lentRow l n a standing (stepsLeft l n a r list) i ≡ rowPart n i (stepsLeft l n a r list)
+settling-lends-new l n a r list standing i limits d all e hi =
+    new-row-lent l n a standing (stepsLeft l n a r list) i
+    (handover-passes l n a standing (stepsLeft l n a r list) i (called l n a r list limits d) (left-long l n a r list limits d) e hi)
+    (settled-is-best l n a r list limits d all)

@@ -1,4 +1,5 @@
 pub mod Tested
 pub mod Recipe
+pub mod Stays
 pub mod Lent
 pub mod Worked

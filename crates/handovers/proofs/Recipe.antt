@@ -1,5 +1,5 @@
 -- The recipe of a repair: sweeping cannot change a matrix that satisfies the equation; settling makes it the best, from any matrix.
-use Prim.Native.Nat.{ℕ, suc, _+_, _-_, _≤_, _<_}
+use Prim.Native.Nat.{ℕ, suc, _+_, _*_, _-_, _≤_, _<_}
 use mathlib.Core.Path.{_≡_, refl, sym, ap, ap₂, subst, _∙_}
 use mathlib.Core.Bool.{Bool, true, false, cond}
 use mathlib.Core.List.{List, [], _∷_, map}
@@ -22,12 +22,12 @@ use Rattle.algebra.proofs.Reach.{run-append, settled-from-any}
 use Rattle.algebra.proofs.Still.{Agree, routed-agree}
 use Rattle.weights.specs.declared.Component.{Component}
 use Rattle.weights.specs.declared.Language.{Language}
-use Rattle.weights.specs.Sizes.{matrixSum}
+use Rattle.weights.specs.Sizes.{weightWords, matrixSum}
 use Rattle.weights.specs.Weights.{language}
 use Rattle.weights.specs.Languages.{componentsOf, SmallLimits}
 use Rattle.matrices.specs.Buffers.{matrixWords}
 use Rattle.matrices.specs.Steps.{Matrix, solves}
-use Rattle.matrices.proofs.Entries.{matrix-cong}
+use Rattle.matrices.proofs.Entries.{matrix-cong, length-matrix}
 use Rattle.matrices.proofs.Every.{solves-exactly}
 use Rattle.matrices.proofs.Malformed.{check-formed}
 use Rattle.routes.specs.Checks.{firstSettle, manyCheck, listCheck}
@@ -38,8 +38,8 @@ use Rattle.handover.specs.Calls.{bestWords, isBest}
 use Rattle.handover.proofs.Words.{words-exactly}
 use Rattle.histories.proofs.Reached.{length-steps}
 use Rattle.histories.proofs.Histories.{settle-number, mem-steps}
-use Rattle.handovers.specs.Handovers.{RowsOnly, SettlesAll}
-use Rattle.handovers.proofs.Tested.{Lawfully, formed-words, net, entry-reads, only-best}
+use Rattle.handovers.specs.Handovers.{BestColumn, RowsOnly, SettlesAll}
+use Rattle.handovers.proofs.Tested.{Lawfully, call-lawfully, formed-words, net, entry-reads, only-best}
 
 -- ---- sweeping
 
@@ -134,13 +134,15 @@ module _ (l : Language) (n : ℕ) (a r list : List ℕ) (limits : SmallLimits 65
       go true p e = absurd (told-not-done (Sum 0 (doneOf cs n A R steps)) e)
       go false p e = omega (arith, ltb-false (doneOf cs n A R steps) (length list) p, done-most cs n A R steps, length-steps list)
 
-  lawfully : Lawfully l n a
-  lawfully =
-      let h = first-passes (matricesChecks l n a r (manyCheck list ∷ listCheck n list ∷ [])) passed in
-      record { nodes = h .0; sound = h .1 .1 .0; long = h .1 .1 .1 .0; law-D = h .1 .1 .1 .1 .1 .0; law-U = h .1 .1 .1 .1 .1 .1 .0; arcs = h .1 .1 .1 .1 .1 .1 .1 .0; limits = limits }
+  pub lawfully : Lawfully l n a
+  lawfully = call-lawfully l n a r (manyCheck list ∷ listCheck n list ∷ []) limits passed
 
+  -- the buffer holds what the steps leave, as long as before
   left : stepsLeft l n a r list ≡ matrixWords n (run (language cs) n A steps R)
   left = ap (λ (c : Check). stepsLeftBy c n (runOf cs n A R steps) r) passed ∙ ap (matrixWords n) (whole-run cs n A R steps whole)
+
+  pub left-long : length (stepsLeft l n a r list) ≡ n * (n * weightWords)
+  left-long = ap length left ∙ length-matrix n (run (language cs) n A steps R)
 
   column : (j : ℕ) → Mem (firstSettle + j) list → (i : ℕ) → i < n → Best (language cs) n A i j (run (language cs) n A steps R i j)
   unfolding net network
@@ -153,8 +155,8 @@ module _ (l : Language) (n : ℕ) (a r list : List ℕ) (limits : SmallLimits 65
   entry i j hi m = only-best l n a lawfully i j hi (run (language cs) n A steps R i j) (column j m i hi)
 
   -- From any matrix that passes the checks: a done call whose list settles column j leaves the best there.
-  pub settled-column : (i j : ℕ) → i < n → j < n → Mem (firstSettle + j) list → Best (language cs) n A i j (matrixOf l n (stepsLeft l n a r list) i j)
-  settled-column i j hi hj m =
+  pub settled-column : (j : ℕ) → j < n → Mem (firstSettle + j) list → BestColumn l n a (stepsLeft l n a r list) j
+  settled-column j hj m i hi =
       subst (Best (language cs) n A i j) (entry i j hi m ∙ sym (entry-reads l n a lawfully (run (language cs) n A steps R) i j hi hj (entry i j hi m)) ∙ sym (ap (λ (s : List ℕ). matrixOf l n s i j) left)) (column j m i hi)
 
   -- A done call that settles every column leaves the best matrix, whatever the buffer held before.

@@ -7,7 +7,10 @@ use mathlib.Core.Logic.{_↔_}
 use native.Mathlib.Omega.{arith}
 use lib.ListN.{length}
 use Rattle.refusals.specs.declared.Refusal.the-variants.{Law}
+use Rattle.refusals.specs.declared.Check.{Check}
 use Rattle.refusals.specs.declared.Check.the-variants.{Passed}
+use Rattle.refusals.specs.Checks.{firstOf}
+use Rattle.refusals.proofs.First.{first-passes}
 use Rattle.algebra.specs.Network.{Network}
 use Rattle.algebra.specs.Best.{Best, best}
 use Rattle.algebra.specs.Step.{sweeps, reached}
@@ -18,7 +21,7 @@ use Rattle.weights.specs.declared.Language.{Language}
 use Rattle.weights.specs.Sizes.{places, arcSum, matrixSum}
 use Rattle.weights.specs.Weights.{Weight, Sound, language}
 use Rattle.weights.specs.Laws.{testD, testU}
-use Rattle.weights.specs.Languages.{componentsOf, limitCheck, SmallLimits}
+use Rattle.weights.specs.Languages.{componentsOf, countCheck, limitCheck, SmallLimits}
 use Rattle.weights.specs.Words.{words, decoded}
 use Rattle.weights.proofs.Padding.{words-pad}
 use Rattle.weights.proofs.Checking.{few, limits-exact}
@@ -28,7 +31,7 @@ use Rattle.matrices.proofs.Blocks.{blocks-cong}
 use Rattle.matrices.proofs.Entries.{matrix-self, matrix-cong, matrix-four}
 use Rattle.matrices.proofs.Malformed.{check-formed}
 use Rattle.routes.specs.Checks.{nodesCheck, lengthCheck, lawDCheck, lawUCheck, arcsCheck}
-use Rattle.routes.specs.Calls.{matrixOf}
+use Rattle.routes.specs.Calls.{matrixOf, matricesChecks}
 use Rattle.routes.proofs.Order.{nodes-passed, length-passed, unless-passes}
 use Rattle.routes.proofs.Bridge.{entry-padded}
 use Rattle.histories.proofs.Reached.{network, reached-formed, reached-reads}
@@ -39,12 +42,19 @@ use Rattle.handovers.specs.Handovers.{EveryEntryBest}
 -- what the checks of every call on A give: a lawful language whose limits are 16-bit numbers, n, and well-formed arcs
 pub record Lawfully (l : Language) (n : ℕ) (a : List ℕ) : Type 0 where
   pub nodes : nodesCheck n ≡ Passed
+  pub count : countCheck l ≡ Passed
   pub sound : limitCheck l ≡ Passed
   pub long : lengthCheck 1 n a ≡ Passed
   pub law-D : lawDCheck (componentsOf l) ≡ Passed
   pub law-U : lawUCheck (componentsOf l) ≡ Passed
   pub arcs : arcsCheck (componentsOf l) n a ≡ Passed
   pub limits : SmallLimits 65535 (componentsOf l)
+
+-- a call on A and R gives it
+pub call-lawfully : (l : Language) (n : ℕ) (a r : List ℕ) (rest : List Check) → SmallLimits 65535 (componentsOf l) → firstOf (matricesChecks l n a r rest) ≡ Passed → Lawfully l n a
+call-lawfully l n a r rest limits p =
+    let h = first-passes (matricesChecks l n a r rest) p in
+    record { nodes = h .0; count = h .1 .0; sound = h .1 .1 .0; long = h .1 .1 .1 .0; law-D = h .1 .1 .1 .1 .1 .0; law-U = h .1 .1 .1 .1 .1 .1 .0; arcs = h .1 .1 .1 .1 .1 .1 .1 .0; limits = limits }
 
 -- a matrix without a malformed entry has the words of its entries
 pub formed-words : (l : Language) (cap n : ℕ) (s : List ℕ) → Formed cap (componentsOf l) n s → matrixWords n (matrixOf l n s) ≡ s

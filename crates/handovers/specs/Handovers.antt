@@ -1,7 +1,7 @@
 -- What is said of handovers: when every entry is the best, and lists of steps that repair a matrix or cannot.
--- To be believed: all of it. The theorems are in proofs/Tested, proofs/Recipe, proofs/Lent and proofs/Worked.
-use Prim.Native.Nat.{ℕ, _+_, _<_}
-use mathlib.Core.List.{List, [], _∷_}
+-- To be believed: all of it. The theorems are in proofs/Tested, Recipe, Stays, Lent, Settles and Worked.
+use Prim.Native.Nat.{ℕ, zero, suc, _+_, _≤_, _<_}
+use mathlib.Core.List.{List, [], _∷_, _++_}
 use Rattle.algebra.specs.Path.{Mem}
 use Rattle.algebra.specs.Best.{Best}
 use Rattle.weights.specs.declared.Language.{Language}
@@ -17,10 +17,24 @@ pub record EveryEntryBest (l : Language) (n : ℕ) (a s : List ℕ) : Type 0 whe
   pub formed : Formed matrixSum (componentsOf l) n s
   pub best : (i j : ℕ) → i < n → j < n → Best (language (componentsOf l)) n (matrixOf l n a) i j (matrixOf l n s i j)
 
+-- column j of the matrix in s holds the best weights over paths that visit no node twice
+abbrev pub BestColumn : Language → ℕ → List ℕ → List ℕ → ℕ → Type 0
+BestColumn l n a s j = (i : ℕ) → i < n → Best (language (componentsOf l)) n (matrixOf l n a) i j (matrixOf l n s i j)
+
 -- every number of the list is a row step
 abbrev pub RowsOnly : ℕ → List ℕ → Type 0
 RowsOnly n [] = Unit {0}
 RowsOnly n (x ∷ list) = (x < n) × RowsOnly n list
+
+-- every number of the list is a settle
+abbrev pub SettlesOnly : ℕ → List ℕ → Type 0
+SettlesOnly n [] = Unit {0}
+SettlesOnly n (x ∷ list) = ((firstSettle ≤ x) × (x < firstSettle + n)) × SettlesOnly n list
+
+-- the n settles, 256 to 255 + n, in order
+abbrev pub settles : ℕ → List ℕ
+settles zero = []
+settles (suc n) = settles n ++ ((firstSettle + n) ∷ [])
 
 -- the list settles every column, in any order, with any other steps before, between and after
 abbrev pub SettlesAll : ℕ → List ℕ → Type 0
