@@ -31,7 +31,7 @@ use Rattle.handover.specs.Calls.{handoverChecks, handoverCheck, isBest, lenderR
 use Rattle.handover.proofs.Answers.{sized}
 use Rattle.handovers.specs.Handovers.{EveryEntryBest, SettlesAll}
 use Rattle.handovers.proofs.Tested.{Lawfully, S, D, U, arcs, test-exactly}
-use Rattle.handovers.proofs.Recipe.{lawfully as called, left-long, settled-is-best}
+use Rattle.handovers.proofs.Recipe.{steps-lawfully, left-long, settled-is-best}
 
 -- the checks of a handover: what every call on A gives, two matrices of the right length, and a node
 pub handover-passes : (l : Language) (n : ℕ) (a standing newer : List ℕ) (i : ℕ) → Lawfully l n a → length newer ≡ n * (n * weightWords) → length standing ≡ n * (n * weightWords) → i < n → handoverCheck l n a standing newer i ≡ Passed
@@ -88,21 +88,21 @@ module _ (l : Language) (n : ℕ) (a standing newer : List ℕ) (i : ℕ) where
   standing-row-lent p q = by-test false p q
 
   module _ (limits : SmallLimits 65535 (componentsOf l)) (p : check ≡ Passed) where
-    lawfully : Lawfully l n a
-    lawfully =
+    pub handover-lawfully : Lawfully l n a
+    handover-lawfully =
         let h = first-passes (handoverChecks l n a standing newer i) p in
         record { nodes = h .0; count = h .1 .0; sound = h .1 .1 .0; long = h .1 .1 .1 .0; law-D = h .1 .1 .1 .1 .1 .1 .0; law-U = h .1 .1 .1 .1 .1 .1 .1 .0; arcs = h .1 .1 .1 .1 .1 .1 .1 .1 .0; limits = limits }
 
     -- The new matrix's row is lent where every entry of it is the best ..
     pub best-lends-new : EveryEntryBest l n a newer → lentRow l n a standing newer i ≡ rowPart n i newer
-    best-lends-new b = by-test true p (test-exactly l n a lawfully newer .1 b)
+    best-lends-new b = by-test true p (test-exactly l n a handover-lawfully newer .1 b)
 
     -- .. and else the standing one's.
     pub else-lends-standing : (EveryEntryBest l n a newer → ⊥) → lentRow l n a standing newer i ≡ rowPart n i standing
     else-lends-standing f = go (isBest l n a newer) refl
       where
         go : (b : Bool) → isBest l n a newer ≡ b → lentRow l n a standing newer i ≡ rowPart n i standing
-        go true q = absurd (f (test-exactly l n a lawfully newer .0 q))
+        go true q = absurd (f (test-exactly l n a handover-lawfully newer .0 q))
         go false q = by-test false p q
 
 -- ---- a history of calls
@@ -140,5 +140,5 @@ pub settling-lends-new : (l : Language) (n : ℕ) (a r list standing : List ℕ)
     → length standing ≡ n * (n * weightWords) → i < n → lentRow l n a standing (stepsLeft l n a r list) i ≡ rowPart n i (stepsLeft l n a r list)
 settling-lends-new l n a r list standing i limits d all e hi =
     new-row-lent l n a standing (stepsLeft l n a r list) i
-    (handover-passes l n a standing (stepsLeft l n a r list) i (called l n a r list limits d) (left-long l n a r list limits d) e hi)
+    (handover-passes l n a standing (stepsLeft l n a r list) i (steps-lawfully l n a r list limits d) (left-long l n a r list limits d) e hi)
     (settled-is-best l n a r list limits d all)

@@ -1,13 +1,12 @@
 -- The recipe of a repair: sweeping cannot change a matrix that satisfies the equation; settling makes it the best, from any matrix.
-use Prim.Native.Nat.{ℕ, suc, _+_, _*_, _-_, _≤_, _<_}
+use Prim.Native.Nat.{ℕ, suc, _+_, _*_, _≤_, _<_}
 use mathlib.Core.Path.{_≡_, refl, sym, ap, ap₂, subst, _∙_}
 use mathlib.Core.Bool.{Bool, true, false, cond}
 use mathlib.Core.List.{List, [], _∷_, map}
-use mathlib.Core.Logic.{inl, inr}
 use native.Mathlib.Omega.{arith}
 use lib.Dec.{eqb, ltb}
 use lib.ListN.{length}
-use borrow.Author.Tests.{lt-ltb, le-ltb, ltb-false}
+use borrow.Author.Tests.{lt-ltb, ltb-false}
 use Rattle.refusals.specs.declared.Refusal.the-variants.{Sum}
 use Rattle.refusals.specs.declared.Check.{Check}
 use Rattle.refusals.specs.declared.Check.the-variants.{Passed, Refused}
@@ -134,8 +133,8 @@ module _ (l : Language) (n : ℕ) (a r list : List ℕ) (limits : SmallLimits 65
       go true p e = absurd (told-not-done (Sum 0 (doneOf cs n A R steps)) e)
       go false p e = omega (arith, ltb-false (doneOf cs n A R steps) (length list) p, done-most cs n A R steps, length-steps list)
 
-  pub lawfully : Lawfully l n a
-  lawfully = call-lawfully l n a r (manyCheck list ∷ listCheck n list ∷ []) limits passed
+  pub steps-lawfully : Lawfully l n a
+  steps-lawfully = call-lawfully l n a r (manyCheck list ∷ listCheck n list ∷ []) limits passed
 
   -- the buffer holds what the steps leave, as long as before
   left : stepsLeft l n a r list ≡ matrixWords n (run (language cs) n A steps R)
@@ -149,15 +148,15 @@ module _ (l : Language) (n : ℕ) (a r list : List ℕ) (limits : SmallLimits 65
   column j m i hi =
       let (s, t, e) = mem-split (settle j) steps (subst (λ (x : Step). Mem x steps) (settle-number j) (mem-steps (firstSettle + j) list m)) in
       subst (λ (w : List Step). Best (language cs) n A i j (run (language cs) n A w R i j)) (sym e)
-      (subst (λ (T : Matrix). Best (language cs) n A i j (T i j)) (sym (run-append (language cs) n A s (settle j ∷ t) R)) (settled-from-any (net l n a lawfully) (run (language cs) n A s R) j t i hi))
+      (subst (λ (T : Matrix). Best (language cs) n A i j (T i j)) (sym (run-append (language cs) n A s (settle j ∷ t) R)) (settled-from-any (net l n a steps-lawfully) (run (language cs) n A s R) j t i hi))
 
   entry : (i j : ℕ) → i < n → Mem (firstSettle + j) list → run (language cs) n A steps R i j ≡ best (language cs) n A i j
-  entry i j hi m = only-best l n a lawfully i j hi (run (language cs) n A steps R i j) (column j m i hi)
+  entry i j hi m = only-best l n a steps-lawfully i j hi (run (language cs) n A steps R i j) (column j m i hi)
 
   -- From any matrix that passes the checks: a done call whose list settles column j leaves the best there.
   pub settled-column : (j : ℕ) → j < n → Mem (firstSettle + j) list → BestColumn l n a (stepsLeft l n a r list) j
   settled-column j hj m i hi =
-      subst (Best (language cs) n A i j) (entry i j hi m ∙ sym (entry-reads l n a lawfully (run (language cs) n A steps R) i j hi hj (entry i j hi m)) ∙ sym (ap (λ (s : List ℕ). matrixOf l n s i j) left)) (column j m i hi)
+      subst (Best (language cs) n A i j) (entry i j hi m ∙ sym (entry-reads l n a steps-lawfully (run (language cs) n A steps R) i j hi hj (entry i j hi m)) ∙ sym (ap (λ (s : List ℕ). matrixOf l n s i j) left)) (column j m i hi)
 
   -- A done call that settles every column leaves the best matrix, whatever the buffer held before.
   pub settling-repairs : SettlesAll n list → stepsLeft l n a r list ≡ bestWords l n a

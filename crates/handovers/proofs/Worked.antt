@@ -1,9 +1,12 @@
--- P8 at a handover: the two depots' matrix satisfies the equation, is not lent, and no sweep repairs it.
-use Prim.Native.Nat.{ℕ}
-use mathlib.Core.Path.{_≡_, refl, ap}
+-- P8 at a handover: the two depots' matrix satisfies the equation, is not lent whatever stands, and no sweep repairs it.
+use Prim.Native.Nat.{ℕ, _<_}
+use mathlib.Core.Path.{_≡_, refl, ap, ap₂}
+use mathlib.Core.Bool.{false}
 use mathlib.Core.List.{List}
 use native.Mathlib.Omega.{arith}
-use lib.ListN.{getD}
+use lib.ListN.{length, getD}
+use Rattle.refusals.specs.declared.Check.the-variants.{Passed}
+use Rattle.refusals.specs.Told.{done}
 use Rattle.algebra.specs.Order.{pick, bestOf}
 use Rattle.algebra.specs.Best.{best, bestAmong}
 use Rattle.algebra.specs.Step.{fresh, routed}
@@ -14,11 +17,13 @@ use Rattle.weights.specs.Languages.{componentsOf}
 use Rattle.weights.specs.Words.{words}
 use Rattle.matrices.specs.Buffers.{blocks, cell, firstMalformed, matrixWords}
 use Rattle.matrices.specs.Steps.{every}
+use Rattle.matrices.proofs.Entries.{length-matrix}
 use Rattle.routes.specs.Calls.{stepsLeft}
 use Rattle.histories.proofs.Worked.{depotArcs, depotRoutes}
-use Rattle.handover.specs.Calls.{NotEnough}
+use Rattle.handover.specs.Calls.{handoverCheck, isBest, lenderRowBy, lenderRow, rowPart, lentRow, NotEnough}
 use Rattle.handovers.specs.Handovers.{RowsOnly}
 use Rattle.handovers.proofs.Recipe.{sweeping-never-repairs}
+use Rattle.handovers.proofs.Lent.{handover-passes, standing-row-lent, handover-lawfully}
 
 -- width 10, three nodes; the standing matrix is the fresh one
 abbrev pub depotLanguage : Language
@@ -42,6 +47,27 @@ depots-not-enough = record {
   lends = refl;
   another = λ e. let z : _≡_ {A = ℕ} 10 4294967295 = ap (λ (s : List ℕ). getD s 4 0) e in omega arith;
 }
+
+-- The depots' matrix fails the test of a handover ..
+depots-not-best : isBest depotLanguage 3 arcWords newWords ≡ false
+unfolding blocks words cell best bestAmong pick
+depots-not-best = refl
+
+-- .. and the checks pass, for every standing matrix of the right length and every node.
+depots-pass : (standing : List ℕ) (i : ℕ) → length standing ≡ 36 → i < 3 → handoverCheck depotLanguage 3 arcWords standing newWords i ≡ Passed
+depots-pass standing i e h =
+    handover-passes depotLanguage 3 arcWords standing newWords i (handover-lawfully depotLanguage 3 arcWords standingWords newWords 0 (omega arith, tt) (depots-not-enough .passes)) (length-matrix 3 depotRoutes) e h
+
+-- So the standing matrix lends, whatever it holds ..
+pub depots-lender-standing : (standing : List ℕ) (i : ℕ) → length standing ≡ 36 → i < 3 → lenderRow depotLanguage 3 arcWords standing newWords i ≡ record { told = done; buffer = 5 }
+depots-lender-standing standing i e h = ap₂ lenderRowBy (depots-pass standing i e h) depots-not-best
+
+pub depots-lend-standing : (standing : List ℕ) (i : ℕ) → length standing ≡ 36 → i < 3 → lentRow depotLanguage 3 arcWords standing newWords i ≡ rowPart 3 i standing
+depots-lend-standing standing i e h = standing-row-lent depotLanguage 3 arcWords standing newWords i (depots-pass standing i e h) depots-not-best
+
+-- .. even where it is that very matrix.
+pub depots-lender-same : (i : ℕ) → i < 3 → lenderRow depotLanguage 3 arcWords newWords newWords i ≡ record { told = done; buffer = 5 }
+depots-lender-same i h = depots-lender-standing newWords i (length-matrix 3 depotRoutes) h
 
 -- Sweeping the depots' matrix never repairs it, however long the list.
 pub depots-never-repaired : (list : List ℕ) → RowsOnly 3 list → stepsLeft depotLanguage 3 arcWords newWords list ≡ newWords
