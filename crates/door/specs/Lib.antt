@@ -1,0 +1,4 @@
+pub mod Languages
+pub mod Replies
+pub mod Reports
+pub mod Problems

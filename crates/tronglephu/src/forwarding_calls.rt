@@ -1,0 +1,47 @@
+// The calls that use routes: forwarding and the next hop.
+use door::NO_NODE;
+use door::Reply;
+use door::languages::language;
+use door::replies::answered;
+use door::replies::done;
+use door::replies::refused;
+use hops::HopAnswer;
+ghost use mathlib.Core.Path.{_≡_};
+ghost use Rattle.door.specs.Languages.{languageOf};
+ghost use Rattle.forwarding.specs.Calls.{forwardLeft};
+ghost use Rattle.tronglephu.specs.Calls.{forwardReply, hopReply};
+
+#[no_mangle]
+pub extern "C" fn tronglephu_forward(
+    numbers: &[u16],
+    n: u32,
+    m: u32,
+    mode: u32,
+    a: &[u32],
+    r: &[u32],
+    mapping: &[u32],
+    f: &mut [u32],
+) -> Reply
+    ensures { λ x. ⌜ x ≡ forwardReply (languageOf (now (numbers .entry))) n m mode (now (a .entry)) (now (r .entry)) (now (mapping .entry)) (now (f .entry)) ⌝ }
+    ensures { λ _. ⌜ now (f .exit) ≡ forwardLeft (languageOf (now (numbers .entry))) n m mode (now (a .entry)) (now (r .entry)) (now (mapping .entry)) (now (f .entry)) ⌝ }
+{
+    answered(forwarding::forward::forward(language(numbers), n, m, mode, a, r, mapping, f))
+}
+
+#[no_mangle]
+pub extern "C" fn tronglephu_next_hop(
+    numbers: &[u16],
+    n: u32,
+    a: &[u32],
+    r: &[u32],
+    i: u32,
+    j: u32,
+) -> Reply
+    ensures { λ x. ⌜ x ≡ hopReply (languageOf (now (numbers .entry))) n (now (a .entry)) (now (r .entry)) i j ⌝ }
+{
+    match hops::next_hop::next_hop(language(numbers), n, a, r, i, j) {
+        HopAnswer::Hop(node) => done(node.0 as u32),
+        HopAnswer::NoHop => done(NO_NODE),
+        HopAnswer::Refused(x) => refused(x, 0),
+    }
+}
