@@ -16,6 +16,11 @@ pub const REPORT_WORDS: usize = 36;
 // The node that stands for none.
 pub const NO_NODE: u32 = 255;
 
+// The two buffers that may lend a row at a handover.
+pub const NEWER: u32 = 2;
+
+pub const STANDING: u32 = 5;
+
 // An answer: number, which and place, 0 0 0 being done, and the one number that the call gives.
 #[repr(C)]
 pub struct Reply {

@@ -18,6 +18,7 @@ use Rattle.laws.specs.Report.{Report, report}
 use Rattle.routes.specs.Calls.{freshCheck, StepsRow, stepsRow, EquationRow, equationRow}
 use Rattle.forwarding.specs.Calls.{forwardCheck}
 use Rattle.hops.specs.Calls.{HopRow, hopRow}
+use Rattle.handover.specs.Calls.{LenderRow, lenderRow}
 use Rattle.files.specs.Answers.{Row, fileRow, arcsAfter, mappingAfter}
 use Rattle.door.specs.declared.Reply.{Reply}
 use Rattle.door.specs.Replies.{replyOf, isDone}
@@ -99,7 +100,7 @@ equationReplyOf w = replyOf (w .told) (cond (w .yes) 1 0)
 abbrev pub equationReply : Language → ℕ → List ℕ → List ℕ → Reply
 equationReply l n a r = equationReplyOf (equationRow l n a r)
 
--- ---- forward, next hop
+-- ---- forward, next hop, handover
 
 abbrev pub forwardReply : Language → ℕ → ℕ → ℕ → List ℕ → List ℕ → List ℕ → List ℕ → Reply
 forwardReply l n m mode a r mapping f = replyOf (checkTold (forwardCheck l n m mode a r mapping f)) 0
@@ -115,3 +116,10 @@ hopReplyOf w = replyOf (w .told) (cond (isDone (w .told)) (nodeOrNone (w .node))
 
 abbrev pub hopReply : Language → ℕ → List ℕ → List ℕ → ℕ → ℕ → Reply
 hopReply l n a r i j = hopReplyOf (hopRow l n a r i j)
+
+-- the number of the buffer that lends
+abbrev pub handoverReplyOf : LenderRow → Reply
+handoverReplyOf w = replyOf (w .told) (w .buffer)
+
+abbrev pub handoverReply : Language → ℕ → List ℕ → List ℕ → List ℕ → ℕ → Reply
+handoverReply l n a standing newer i = handoverReplyOf (lenderRow l n a standing newer i)

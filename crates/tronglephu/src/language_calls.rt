@@ -32,6 +32,7 @@ fn check_room(arcs: &[u32], mapping: &[u32], problem: &[u32]) -> Check
     Check::Passed
 }
 
+// Reads a problem file: its arcs, its mapping, and its twelve words n, m, mode and language.
 #[no_mangle]
 pub extern "C" fn tronglephu_read(
     file: &[u8],
@@ -61,6 +62,7 @@ pub extern "C" fn tronglephu_read(
     }
 }
 
+// The law report; the value is 1 for D, 2 for U and 4 for C, added where the law is held.
 #[no_mangle]
 pub extern "C" fn tronglephu_laws(numbers: &[u16], report: &mut [u32]) -> Reply
     ensures { λ x. ⌜ x ≡ lawsReply (languageOf (now (numbers .entry))) (now (report .entry)) ⌝ }

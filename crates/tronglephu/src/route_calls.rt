@@ -11,6 +11,7 @@ ghost use Rattle.door.specs.Languages.{languageOf};
 ghost use Rattle.routes.specs.Calls.{freshLeft, stepsLeft};
 ghost use Rattle.tronglephu.specs.Calls.{freshReply, stepsReply, equationReply};
 
+// Makes r the fresh matrix.
 #[no_mangle]
 pub extern "C" fn tronglephu_fresh(numbers: &[u16], n: u32, r: &mut [u32]) -> Reply
     ensures { λ x. ⌜ x ≡ freshReply (languageOf (now (numbers .entry))) n (now (r .entry)) ⌝ }
@@ -19,6 +20,7 @@ pub extern "C" fn tronglephu_fresh(numbers: &[u16], n: u32, r: &mut [u32]) -> Re
     answered(routes::fresh::fresh(language(numbers), n, r))
 }
 
+// Runs a list of steps on r; the value is the steps done, on 11 too.
 #[no_mangle]
 pub extern "C" fn tronglephu_steps(
     numbers: &[u16],
@@ -36,6 +38,7 @@ pub extern "C" fn tronglephu_steps(
     }
 }
 
+// Does r satisfy the routing equation? 1 yes, 0 no.
 #[no_mangle]
 pub extern "C" fn tronglephu_equation(numbers: &[u16], n: u32, a: &[u32], r: &[u32]) -> Reply
     ensures { λ x. ⌜ x ≡ equationReply (languageOf (now (numbers .entry))) n (now (a .entry)) (now (r .entry)) ⌝ }
