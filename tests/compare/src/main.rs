@@ -2,10 +2,6 @@
 //! compares every answer and every word of every buffer with the independent implementation. Call k has the seed S + k.
 #![forbid(unsafe_code)]
 
-mod calls;
-mod coverage;
-mod generate;
-mod networks;
 mod program;
 
 use std::io;
@@ -13,8 +9,9 @@ use std::process::{ChildStdin, ExitCode};
 use std::sync::mpsc::{sync_channel, Receiver, SyncSender};
 use std::thread;
 
-use calls::{spaced, AnswerWords, Call};
-use coverage::Coverage;
+use compare::calls::{spaced, AnswerWords, Call};
+use compare::coverage::Coverage;
+use compare::generate;
 use program::Program;
 
 /// From this many calls on, each answer that a call can give must have been met.
