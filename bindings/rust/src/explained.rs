@@ -388,7 +388,7 @@ pub fn page() -> String {
         // Writing to a string does not fail.
         let _ = write!(page, "\n## {call}\n\n{TABLE_HEAD}");
         for case in cases(call) {
-            page.push_str(&row(case));
+            let _ = writeln!(page, "{}", line(case));
         }
     }
     page
@@ -397,9 +397,10 @@ pub fn page() -> String {
 const TABLE_HEAD: &str =
     "| number | which | place | in words | what to do |\n|---|---|---|---|---|\n";
 
-fn row(case: &Case) -> String {
+/// A case's line of its table.
+pub(crate) fn line(case: &Case) -> String {
     let place = case.at.map_or("p".to_string(), |at| at.to_string());
     let (number, which, remedy) = (case.number, case.which, case.remedy);
     let words = case.says("p");
-    format!("| {number} | {which} | {place} | {words} | {remedy} |\n")
+    format!("| {number} | {which} | {place} | {words} | {remedy} |")
 }

@@ -137,6 +137,11 @@ impl Problem {
         &self.mapping
     }
 
+    /// The mapping table, to be changed.
+    pub fn mapping_mut(&mut self) -> &mut Table {
+        &mut self.mapping
+    }
+
     /// The problem of a file's bytes.
     pub fn read(file: &[u8]) -> Result<Problem, Refusal> {
         let mut arcs = vec![0; ffi::ARCS_ROOM];

@@ -139,6 +139,11 @@ impl Refusal {
     pub fn remedy(&self) -> Option<&'static str> {
         self.case().map(|case| case.remedy)
     }
+
+    /// Its line in the call's table of `docs/REFUSALS.md`.
+    pub fn line(&self) -> Option<String> {
+        self.case().map(explained::line)
+    }
 }
 
 impl fmt::Display for Refusal {

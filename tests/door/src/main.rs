@@ -4,6 +4,7 @@
 mod canaries;
 mod exports;
 mod outcomes;
+mod page;
 mod requests;
 
 use std::process::ExitCode;
@@ -12,6 +13,7 @@ use compare::calls::Kind;
 use compare::coverage::Coverage;
 
 use exports::Lent;
+use page::Explained;
 use requests::Request;
 
 /// From this many calls on, each answer that a call can give must have been met.
@@ -26,6 +28,7 @@ struct Options {
 #[derive(Default)]
 struct Met {
     coverage: Coverage,
+    explained: Explained,
     odd_languages: u64,
     short_reports: u64,
     short_problems: u64,
@@ -87,6 +90,9 @@ fn compare_call(seed: u64, met: &mut Met) -> Result<(), String> {
             "{call}independent: {expected:?}\nexported:    {found:?}"
         ));
     }
+    if !met.explained.add(request.call.kind, reply) {
+        return Err(format!("docs/REFUSALS.md does not have {reply:?}"));
+    }
     met.odd_languages += u64::from(request.has_odd_language());
     let too_short = (reply.number, reply.which) == (9, 6);
     match request.call.kind {
@@ -107,9 +113,14 @@ fn judged(options: &Options, met: &Met) -> ExitCode {
     ];
     let texts = others.map(|(name, count)| format!("{name}: {count}"));
     println!("{}", texts.join(", "));
-    let mut missing = met.coverage.missing();
-    let unmet = others.iter().filter(|(_, count)| *count == 0);
-    missing.extend(unmet.map(|(name, _)| name.to_string()));
+    let (lines, unmet) = met.explained.missing();
+    println!(
+        "of {lines} lines of docs/REFUSALS.md met: {}",
+        lines - unmet.len()
+    );
+    let mut missing = [met.coverage.missing(), unmet].concat();
+    let unseen = others.iter().filter(|(_, count)| *count == 0);
+    missing.extend(unseen.map(|(name, _)| name.to_string()));
     if options.calls >= ENOUGH && !missing.is_empty() {
         println!("never met: {}", missing.join(", "));
         return ExitCode::FAILURE;
