@@ -163,8 +163,8 @@ impl Network {
         let (i, j) = (i.0.into(), j.0.into());
         let answer = ffi::next_hop(numbers, self.n().into(), a, r.words(), i, j);
         let value = Refusal::unless_done(Call::NextHop, answer)?;
-        let node = u8::try_from(value).ok().filter(|_| value != ffi::NO_NODE);
-        Ok(node.map(Node))
+        // What is no node is 255, and a node is below n.
+        Ok((value != ffi::NO_NODE).then_some(Node(value as u8)))
     }
 
     /// Which matrix lends row i: the new one exactly where every entry of it is the best weight over paths that visit no

@@ -46,6 +46,17 @@ fn what_is_read_encodes() {
     }
 }
 
+/// The stored file of the C example.
+#[test]
+fn a_stored_file_is_its_own_encoding() {
+    let path = concat!(
+        env!("CARGO_MANIFEST_DIR"),
+        "/../../examples/printed.problem"
+    );
+    let file = std::fs::read(path).unwrap();
+    assert_eq!(Problem::read(&file).unwrap().encode(), Ok(file));
+}
+
 fn small(components: &[Component], arc: Weight, mode: Option<Mode>, m: u8) -> Problem {
     let mut arcs = Matrix::without_routes(2);
     arcs.set(Node(0), Node(1), arc);
