@@ -4,12 +4,21 @@
 
 use std::error::Error;
 use std::fs;
+use std::process::ExitCode;
 
 use tronglephu::{Language, Law, Lender, LentRow, Matrix, Network, Node, Problem, Step};
 
 type Outcome<T> = Result<T, Box<dyn Error>>;
 
-fn main() -> Outcome<()> {
+fn main() -> ExitCode {
+    if let Err(fault) = run() {
+        eprintln!("{fault}");
+        return ExitCode::FAILURE;
+    }
+    ExitCode::SUCCESS
+}
+
+fn run() -> Outcome<()> {
     let words: Vec<String> = std::env::args().skip(1).collect();
     let (before, after) = match words.as_slice() {
         [] => (

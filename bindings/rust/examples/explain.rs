@@ -2,10 +2,19 @@
 //! explain page: writes docs/REFUSALS.md.
 
 use std::error::Error;
+use std::process::ExitCode;
 
 use tronglephu::{refusals_page, Refusal};
 
-fn main() -> Result<(), Box<dyn Error>> {
+fn main() -> ExitCode {
+    if let Err(fault) = run() {
+        eprintln!("{fault}");
+        return ExitCode::FAILURE;
+    }
+    ExitCode::SUCCESS
+}
+
+fn run() -> Result<(), Box<dyn Error>> {
     let words: Vec<String> = std::env::args().skip(1).collect();
     match words.as_slice() {
         [word] if word == "page" => print!("{}", refusals_page()),

@@ -3,10 +3,19 @@
 
 use std::error::Error;
 use std::io::{self, Read, Write};
+use std::process::ExitCode;
 
 use tronglephu::Problem;
 
-fn main() -> Result<(), Box<dyn Error>> {
+fn main() -> ExitCode {
+    if let Err(fault) = run() {
+        eprintln!("{fault}");
+        return ExitCode::FAILURE;
+    }
+    ExitCode::SUCCESS
+}
+
+fn run() -> Result<(), Box<dyn Error>> {
     let mut input = Vec::new();
     io::stdin().read_to_end(&mut input)?;
     match std::env::args().nth(1).as_deref() {

@@ -270,12 +270,12 @@ const REPORT_ROOM: Case = Case::fixed(
 const A_LENGTH: Case = Case::fixed(
     (9, 1, 0),
     "A does not have n x n x 4 words",
-    "Lend just n x n weights of four words; see that n is A's own.",
+    "Lend just n x n weights of four words, with the n that the call is given.",
 );
 const R_LENGTH: Case = Case::fixed(
     (9, 2, 0),
     "R does not have n x n x 4 words",
-    "Lend just n x n weights of four words; see that R is of the same network as A.",
+    "Lend just n x n weights of four words, with the n that the call is given.",
 );
 const M_LENGTH: Case = Case::fixed(
     (9, 3, 0),
@@ -290,12 +290,12 @@ const F_LENGTH: Case = Case::fixed(
 const NEW_LENGTH: Case = Case::fixed(
     (9, 2, 0),
     "the new matrix does not have n x n x 4 words",
-    "Lend just n x n weights of four words; see that it is of the same network as A.",
+    "Lend just n x n weights of four words, with the n that the call is given.",
 );
 const STANDING_LENGTH: Case = Case::fixed(
     (9, 5, 0),
     "the standing matrix does not have n x n x 4 words",
-    "Lend just n x n weights of four words; see that it is of the same network as A.",
+    "Lend just n x n weights of four words, with the n that the call is given.",
 );
 
 // ---- laws
@@ -377,8 +377,8 @@ and 6. The name of a call is that of its C function without `tronglephu_`.
 Buffers are called A (arcs), R (routes), M (mapping) and F (forwarding). Words of a buffer, bytes of a file, components and steps
 count from 0.
 
-This page is made from `bindings/rust/src/explained.rs`, as the texts of the Rust crate's refusals are. `cargo run --example
-explain CALL NUMBER WHICH PLACE`, in `bindings/rust`, says one of them; `cargo run --example explain page` makes the page.
+This page is made from `bindings/rust/src/explained.rs`, as the texts of the Rust crate's refusals are. There,
+`cargo run --example explain CALL NUMBER WHICH PLACE` says one of them, and `cargo run --example explain page` makes this page.
 ";
 
 /// `docs/REFUSALS.md`.
