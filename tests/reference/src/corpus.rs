@@ -127,6 +127,7 @@ pub fn cases() -> Vec<Case> {
     records_refused(&mut list);
     laws_missing(&mut list);
     sizes(&mut list);
+    published(&mut list);
     list.0
 }
 
@@ -414,6 +415,35 @@ fn sizes(list: &mut List) {
     }
 }
 
+/// Source document 002, figure 6: (a) to (d) the bandwidths, cold and hot, and (e) to (h) the distances, hot.
+fn published(list: &mut List) {
+    let band = concat!(
+        "00000043010402",
+        "03",
+        "02ffff0008000100140002001e01000014010300280200001e0203001403010028030200140004",
+        "0000ffff00030200ffff00020201ffff00010301ffff0001"
+    );
+    let distance = concat!(
+        "00000051010502",
+        "02",
+        "01000c000100030004000501000003010200020103000201040003020100020204000403010002",
+        "04000005040100030402000400040300000000aa0301000000460400000000b404010000003c"
+    );
+    list.add("figure_6_of_002_bandwidth_cold", from_hex(band));
+    let mut hot = from_hex(band);
+    hot[7] = 2;
+    list.add("figure_6_of_002_bandwidth_hot", hot);
+    list.add("figure_6_of_002_distance_hot", from_hex(distance));
+}
+
+fn from_hex(text: &str) -> Vec<u8> {
+    let digit = |byte: u8| (byte as char).to_digit(16).expect("a hex digit") as u8;
+    let pairs = text.as_bytes().chunks(2);
+    pairs
+        .map(|pair| digit(pair[0]) << 4 | digit(pair[1]))
+        .collect()
+}
+
 fn without_destinations(file: &mut Draft) {
     file.header[2..].fill(0);
     file.attachments.clear();
@@ -463,6 +493,31 @@ mod tests {
         ] {
             assert!(met.contains(&refusal), "{refusal:?}");
         }
+    }
+
+    /// The forwarding tables that figure 6 of 002 prints: (d), value then t by node, and (h).
+    #[test]
+    fn figure_6_of_002() {
+        let named = |name: &str| {
+            let case = cases().into_iter().find(|(found, _)| found.ends_with(name));
+            crate::print(&case.expect("the case is listed").1)
+        };
+        let forwarded = |text: &str| -> Vec<String> {
+            let lines = text.lines().filter(|line| line.starts_with("F "));
+            let entry = |line: &str| line.splitn(4, ' ').nth(3).unwrap_or("").to_string();
+            lines.map(entry).collect()
+        };
+        let cold = forwarded(&named("bandwidth_cold"));
+        let figure = [
+            "30 2", "30 1", "20 2", "40 1", "65535 2", "65535 1", "20 2", "65535 1",
+        ];
+        assert_eq!(cold, figure);
+        assert!(named("bandwidth_hot").ends_with("REFUSED 10 3 0\n"));
+        let hot = forwarded(&named("distance_hot"));
+        let figure = [
+            "5 170", "5 60", "2 170", "2 70", "4 170", "4 60", "0 170", "0 70", "0 180", "0 60",
+        ];
+        assert_eq!(hot, figure);
     }
 
     #[test]
