@@ -16,7 +16,7 @@ use Rattle.refusals.specs.declared.Check.the-variants.{Passed, Refused}
 use Rattle.refusals.specs.Told.{row, told, done}
 use Rattle.refusals.specs.Checks.{unless, firstOf, checkTold, Pass, Gives}
 use Rattle.refusals.proofs.OneToOne.{told-one, told-not-done}
-use Rattle.refusals.proofs.Exactly.{told-check}
+use Rattle.refusals.proofs.Exactly.{told-check, Never, gives-only, OfNumber, unless-number}
 use Rattle.refusals.proofs.First.{passed-not, first-exactly, pass-first}
 use Rattle.algebra.specs.Step.{Solves}
 use Rattle.weights.specs.declared.Component.{Component}
@@ -47,6 +47,7 @@ use Rattle.matrices.proofs.Malformed.{check-formed}
 use Rattle.forwarding.specs.Checks.{destinationsCheck, chosenCheck, chosenMode, modeCheck, tableLengthCheck, lawCCheck, mappingCheck, solvesCheck}
 use Rattle.forwarding.specs.Calls.{modeMeant, forwardChecks, forwardCheck}
 use Rattle.forwarded.specs.Table.{HoldsBest}
+use Rattle.forwarded.specs.Exact.{beforeLawC, beforeEquation}
 
 -- ---- the call refuses x exactly when one of its checks gives x and all before it pass
 
@@ -57,51 +58,20 @@ forward-refuses l n m number a r s f x =
 
 -- ---- a refusal that one check alone can give
 
--- no check of the list gives x
-abbrev Never : Refusal → List Check → Type 0
-Never x [] = Unit {0}
-Never x (c ∷ cs) = (c ≡ Refused x → ⊥) × Never x cs
-
-never-first : (x : Refusal) (cs : List Check) → Never x cs → firstOf cs ≡ Refused x → ⊥
-never-first x [] h e = passed-not x e
-never-first x (Passed ∷ cs) h e = never-first x cs (h .1) e
-never-first x (Refused y ∷ cs) h e = h .0 e
-
--- .. but c: then it is given exactly where c gives it and all before c pass
-only-here : (x : Refusal) (before : List Check) (c : Check) (after : List Check) → Never x before → Never x after → (firstOf (before ++ c ∷ after) ≡ Refused x) ↔ (Pass before × (c ≡ Refused x))
-only-here x before c after u v = (there before u, back before)
-  where
-    here : (k : Check) → firstOf (k ∷ after) ≡ Refused x → k ≡ Refused x
-    here Passed e = absurd (never-first x after v e)
-    here (Refused y) e = e
-
-    there : (cs : List Check) → Never x cs → firstOf (cs ++ c ∷ after) ≡ Refused x → Pass cs × (c ≡ Refused x)
-    there [] h e = (tt, here c e)
-    there (Passed ∷ cs) h e = let g = there cs (h .1) e in ((refl, g .0), g .1)
-    there (Refused y ∷ cs) h e = absurd (h .0 e)
-
-    back : (cs : List Check) → Pass cs × (c ≡ Refused x) → firstOf (cs ++ c ∷ after) ≡ Refused x
-    back [] (p, e) = rw e
-    back (k ∷ cs) (p, e) = rw (p .0) (back cs (p .1, e))
+-- .. is given exactly where that check gives it and all before it pass
+only-here : (x : Refusal) (before : List Check) (c : Check) (after : List Check) → Never before x → Never after x → (firstOf (before ++ c ∷ after) ≡ Refused x) ↔ (Pass before × (c ≡ Refused x))
+only-here x before c after u v = (λ e. gives-only before c after x u v .0 (first-exactly (before ++ c ∷ after) x .0 e), λ h. first-exactly (before ++ c ∷ after) x .1 (gives-only before c after x u v .1 h))
 
 -- ---- the number that a check gives
-
--- the check refuses with this number alone
-abbrev Numbered : ℕ → Check → Type 0
-Numbered k c = (x : Refusal) → c ≡ Refused x → told x .number ≡ k
 
 refused-one : (x y : Refusal) → Refused x ≡ Refused y → x ≡ y
 refused-one x y e = cc
 
-unless-numbered : (b : Bool) (x : Refusal) → Numbered (told x .number) (unless b x)
-unless-numbered true x y e = absurd (passed-not y e)
-unless-numbered false x y e = ap (λ (z : Refusal). told z .number) (sym (refused-one x y e))
-
-chosen-numbered : (c : Chosen) → Numbered 3 (chosenCheck c)
+chosen-numbered : (c : Chosen) → OfNumber 3 (chosenCheck c)
 chosen-numbered (Fits mode) y e = absurd (passed-not y e)
 chosen-numbered Unfit y e = ap (λ (z : Refusal). told z .number) (sym (refused-one (Size 3 0) y e))
 
-limits-numbered : (i : ℕ) (cs : List Component) → Numbered 4 (limitsFrom i cs)
+limits-numbered : (i : ℕ) (cs : List Component) → OfNumber 4 (limitsFrom i cs)
 limits-numbered i [] y e = absurd (passed-not y e)
 limits-numbered i (c ∷ cs) y e = go (soundLimit c) e (limits-numbered (suc i) cs y)
   where
@@ -109,11 +79,11 @@ limits-numbered i (c ∷ cs) y e = go (soundLimit c) e (limits-numbered (suc i) 
     go true q ih = ih q
     go false q ih = ap (λ (z : Refusal). told z .number) (sym (refused-one (BadComponent 0 i) y q))
 
-malformed-numbered : (test : ℕ → Bool) (size which c : ℕ) → Numbered 6 (firstMalformed test size which 0 c)
+malformed-numbered : (test : ℕ → Bool) (size which c : ℕ) → OfNumber 6 (firstMalformed test size which 0 c)
 malformed-numbered test size which c y e = ap (λ (z : Refusal). told z .number) (refuses-first test size which c 0 y e .told)
 
 -- another number, or another which
-other : {k : ℕ} {c : Check} (x : Refusal) → Numbered k c → (told x .number ≡ k → ⊥) → c ≡ Refused x → ⊥
+other : {k : ℕ} {c : Check} (x : Refusal) → OfNumber k c → (told x .number ≡ k → ⊥) → c ≡ Refused x → ⊥
 other x h d e = d (h x e)
 
 unless-other : (b : Bool) (x y : Refusal) → (x ≡ y → ⊥) → unless b x ≡ Refused y → ⊥
@@ -132,32 +102,26 @@ module _ (l : Language) (n m number : ℕ) (a r s f : List ℕ) where
   abbrev mode : Mode
   mode = modeMeant l m number
 
-  abbrev pub beforeLawC : List Check
-  beforeLawC = nodesCheck n ∷ destinationsCheck m ∷ modeCheck cs m number ∷ countCheck l ∷ limitCheck l ∷ lengthCheck 1 n a ∷ lengthCheck 2 n r ∷ tableLengthCheck 3 n m s ∷ tableLengthCheck 4 n m f ∷ lawDCheck cs ∷ lawUCheck cs ∷ []
-
-  abbrev pub beforeEquation : List Check
-  beforeEquation = beforeLawC ++ lawCCheck mode cs ∷ arcsCheck cs n a ∷ routesCheck cs n r ∷ mappingCheck mode cs n m s ∷ []
-
   -- the checks of sizes, language and lengths, and then others, never give a refusal with another number
-  sizes-never : (x : Refusal) → (told x .number ≡ 3 → ⊥) → (told x .number ≡ 5 → ⊥) → (told x .number ≡ 4 → ⊥) → (told x .number ≡ 9 → ⊥) → (rest : List Check) → Never x rest
-      → Never x (nodesCheck n ∷ destinationsCheck m ∷ modeCheck cs m number ∷ countCheck l ∷ limitCheck l ∷ lengthCheck 1 n a ∷ lengthCheck 2 n r ∷ tableLengthCheck 3 n m s ∷ tableLengthCheck 4 n m f ∷ rest)
+  sizes-never : (x : Refusal) → (told x .number ≡ 3 → ⊥) → (told x .number ≡ 5 → ⊥) → (told x .number ≡ 4 → ⊥) → (told x .number ≡ 9 → ⊥) → (rest : List Check) → Never rest x
+      → Never (nodesCheck n ∷ destinationsCheck m ∷ modeCheck cs m number ∷ countCheck l ∷ limitCheck l ∷ lengthCheck 1 n a ∷ lengthCheck 2 n r ∷ tableLengthCheck 3 n m s ∷ tableLengthCheck 4 n m f ∷ rest) x
   sizes-never x d3 d5 d4 d9 rest h = (
-    other x (unless-numbered (leb 1 n && leb n 16) (Size 1 0)) d3,
+    other x (unless-number (leb 1 n && leb n 16) (Size 1 0)) d3,
     (
-      other x (unless-numbered (leb m 32) (Size 2 0)) d3,
+      other x (unless-number (leb m 32) (Size 2 0)) d3,
       (
         other x (chosen-numbered (modeFor cs m number)) d3,
         (
-          other x (unless-numbered (leb 1 (l .count) && leb (l .count) 4) (BadCount 0 0)) d5,
+          other x (unless-number (leb 1 (l .count) && leb (l .count) 4) (BadCount 0 0)) d5,
           (
             other x (limits-numbered 0 cs) d4,
             (
-              other x (unless-numbered (eqb (length a) (n * (n * weightWords))) (Length 1 0)) d9,
+              other x (unless-number (eqb (length a) (n * (n * weightWords))) (Length 1 0)) d9,
               (
-                other x (unless-numbered (eqb (length r) (n * (n * weightWords))) (Length 2 0)) d9,
+                other x (unless-number (eqb (length r) (n * (n * weightWords))) (Length 2 0)) d9,
                 (
-                  other x (unless-numbered (eqb (length s) (n * (m * entryWords))) (Length 3 0)) d9,
-                  (other x (unless-numbered (eqb (length f) (n * (m * entryWords))) (Length 4 0)) d9, h),
+                  other x (unless-number (eqb (length s) (n * (m * entryWords))) (Length 3 0)) d9,
+                  (other x (unless-number (eqb (length f) (n * (m * entryWords))) (Length 4 0)) d9, h),
                 ),
               ),
             ),
@@ -167,7 +131,7 @@ module _ (l : Language) (n m number : ℕ) (a r s f : List ℕ) where
     ),
   )
 
-  entries-never : (x : Refusal) → (told x .number ≡ 6 → ⊥) → (rest : List Check) → Never x rest → Never x (arcsCheck cs n a ∷ routesCheck cs n r ∷ mappingCheck mode cs n m s ∷ rest)
+  entries-never : (x : Refusal) → (told x .number ≡ 6 → ⊥) → (rest : List Check) → Never rest x → Never (arcsCheck cs n a ∷ routesCheck cs n r ∷ mappingCheck mode cs n m s ∷ rest) x
   entries-never x d6 rest h = (
     other x (malformed-numbered (wellFormed arcSum cs a) weightWords 1 (n * n)) d6,
     (
@@ -177,7 +141,7 @@ module _ (l : Language) (n m number : ℕ) (a r s f : List ℕ) where
   )
 
   -- the language's limits are sound once 5 and 4 pass
-  before-sound : Pass beforeLawC → Sound cs
+  before-sound : Pass (beforeLawC l n m number a r s f) → Sound cs
   before-sound p = check-sound l (pass-first (countCheck l ∷ limitCheck l ∷ []) (p .1 .1 .1 .0, (p .1 .1 .1 .1 .0, tt)))
 
   -- ---- 10, which 3
@@ -198,19 +162,19 @@ module _ (l : Language) (n m number : ℕ) (a r s f : List ℕ) where
       back (p, g) = refuse (testC cs) refl p g
 
   -- 10 3 0 exactly where all checks before it pass, the mode needs law C, and law C fails over all weights.
-  pub law-C-refused : (checkTold (forwardCheck l n m number a r s f) ≡ row 10 3 0) ↔ (Pass beforeLawC × (needsC mode ≡ true) × (LawC cs → ⊥))
+  pub law-C-refused : (checkTold (forwardCheck l n m number a r s f) ≡ row 10 3 0) ↔ (Pass (beforeLawC l n m number a r s f) × (needsC mode ≡ true) × (LawC cs → ⊥))
   law-C-refused =
-      let exactly = only-here (Law 3 0) beforeLawC (lawCCheck mode cs) (arcsCheck cs n a ∷ routesCheck cs n r ∷ mappingCheck mode cs n m s ∷ solvesCheck cs n a r ∷ []) before after in (
+      let exactly = only-here (Law 3 0) (beforeLawC l n m number a r s f) (lawCCheck mode cs) (arcsCheck cs n a ∷ routesCheck cs n r ∷ mappingCheck mode cs n m s ∷ solvesCheck cs n a r ∷ []) before after in (
         λ e. let g = exactly .0 (told-check (forwardCheck l n m number a r s f) (Law 3 0) .0 e) in let h = law-C-missing (before-sound (g .0)) .0 (g .1) in (g .0, h .0, h .1),
         λ (p, h, g). told-check (forwardCheck l n m number a r s f) (Law 3 0) .1 (exactly .1 (p, law-C-missing (before-sound p) .1 (h, g))),
       )
     where
-      before : Never (Law 3 0) beforeLawC
+      before : Never (beforeLawC l n m number a r s f) (Law 3 0)
       before = sizes-never (Law 3 0) (λ e. omega arith) (λ e. omega arith) (λ e. omega arith) (λ e. omega arith) (lawDCheck cs ∷ lawUCheck cs ∷ [])
           (unless-other (testD cs) (Law 1 0) (Law 3 0) (which-apart 1 3 (λ e. omega arith)), (unless-other (testU cs) (Law 2 0) (Law 3 0) (which-apart 2 3 (λ e. omega arith)), tt))
 
-      after : Never (Law 3 0) (arcsCheck cs n a ∷ routesCheck cs n r ∷ mappingCheck mode cs n m s ∷ solvesCheck cs n a r ∷ [])
-      after = entries-never (Law 3 0) (λ e. omega arith) (solvesCheck cs n a r ∷ []) (other (Law 3 0) (unless-numbered (solves cs n (matrixOf l n a) (matrixOf l n r)) (Equation 2 0)) (λ e. omega arith), tt)
+      after : Never (arcsCheck cs n a ∷ routesCheck cs n r ∷ mappingCheck mode cs n m s ∷ solvesCheck cs n a r ∷ []) (Law 3 0)
+      after = entries-never (Law 3 0) (λ e. omega arith) (solvesCheck cs n a r ∷ []) (other (Law 3 0) (unless-number (solves cs n (matrixOf l n a) (matrixOf l n r)) (Equation 2 0)) (λ e. omega arith), tt)
 
   -- among numbers that fit, 2 alone means a mode that needs law C
   hot-is-two : modeCheck cs m number ≡ Passed → (needsC mode ≡ true) ↔ (number ≡ 2)
@@ -231,7 +195,7 @@ module _ (l : Language) (n m number : ℕ) (a r s f : List ℕ) where
       back q = subst (λ (k : ℕ). needsC (modeMeant l m k) ≡ true) (sym q) (fits (leb 1 m) (subst (λ (k : ℕ). modeCheck cs m k ≡ Passed) q h))
 
   -- Said of the mode's number: 10 3 0 exactly where all checks before it pass, the mode is 2, hot, and law C fails over all weights.
-  pub hot-refused : (checkTold (forwardCheck l n m number a r s f) ≡ row 10 3 0) ↔ (Pass beforeLawC × (number ≡ 2) × (LawC cs → ⊥))
+  pub hot-refused : (checkTold (forwardCheck l n m number a r s f) ≡ row 10 3 0) ↔ (Pass (beforeLawC l n m number a r s f) × (number ≡ 2) × (LawC cs → ⊥))
   hot-refused = (
     λ e. let g = law-C-refused .0 e in (g .0, hot-is-two (g .0 .1 .1 .0) .0 (g .1), g .2),
     λ (p, q, g). law-C-refused .1 (p, hot-is-two (p .1 .1 .0) .1 q, g),
@@ -251,28 +215,28 @@ module _ (l : Language) (n m number : ℕ) (a r s f : List ℕ) where
       back false q g = ap (λ (b : Bool). unless b (Equation 2 0)) q
 
   -- 12 2 0 exactly where all other checks pass and R does not satisfy R = (A join R) best fresh.
-  pub equation-refused : (checkTold (forwardCheck l n m number a r s f) ≡ row 12 2 0) ↔ (Pass beforeEquation × (Solves (language cs) n (matrixOf l n a) (matrixOf l n r) → ⊥))
+  pub equation-refused : (checkTold (forwardCheck l n m number a r s f) ≡ row 12 2 0) ↔ (Pass (beforeEquation l n m number a r s f) × (Solves (language cs) n (matrixOf l n a) (matrixOf l n r) → ⊥))
   equation-refused =
-      let exactly = only-here (Equation 2 0) beforeEquation (solvesCheck cs n a r) [] before tt in (
+      let exactly = only-here (Equation 2 0) (beforeEquation l n m number a r s f) (solvesCheck cs n a r) [] before tt in (
         λ e. let g = exactly .0 (told-check (forwardCheck l n m number a r s f) (Equation 2 0) .0 e) in (g .0, solves-missing .0 (g .1)),
         λ (p, h). told-check (forwardCheck l n m number a r s f) (Equation 2 0) .1 (exactly .1 (p, solves-missing .1 h)),
       )
     where
-      before : Never (Equation 2 0) beforeEquation
+      before : Never (beforeEquation l n m number a r s f) (Equation 2 0)
       before = sizes-never (Equation 2 0) (λ e. omega arith) (λ e. omega arith) (λ e. omega arith) (λ e. omega arith) (lawDCheck cs ∷ lawUCheck cs ∷ lawCCheck mode cs ∷ arcsCheck cs n a ∷ routesCheck cs n r ∷ mappingCheck mode cs n m s ∷ []) (
-        other (Equation 2 0) (unless-numbered (testD cs) (Law 1 0)) (λ e. omega arith),
+        other (Equation 2 0) (unless-number (testD cs) (Law 1 0)) (λ e. omega arith),
         (
-          other (Equation 2 0) (unless-numbered (testU cs) (Law 2 0)) (λ e. omega arith),
+          other (Equation 2 0) (unless-number (testU cs) (Law 2 0)) (λ e. omega arith),
           (
-            other (Equation 2 0) (unless-numbered (not (needsC mode) || testC cs) (Law 3 0)) (λ e. omega arith),
+            other (Equation 2 0) (unless-number (not (needsC mode) || testC cs) (Law 3 0)) (λ e. omega arith),
             entries-never (Equation 2 0) (λ e. omega arith) [] tt,
           ),
         ),
       )
 
   -- Where R holds the best weights and all other checks pass, the call is done ..
-  pub best-done : HoldsBest l n m number a r s f → Pass beforeEquation → forwardCheck l n m number a r s f ≡ Passed
-  best-done b p = pass-first (forwardChecks l n m number a r s f) (all beforeEquation (solvesCheck cs n a r) p (ap (λ (x : Bool). unless x (Equation 2 0)) solved))
+  pub best-done : HoldsBest l n m number a r s f → Pass (beforeEquation l n m number a r s f) → forwardCheck l n m number a r s f ≡ Passed
+  best-done b p = pass-first (forwardChecks l n m number a r s f) (all (beforeEquation l n m number a r s f) (solvesCheck cs n a r) p (ap (λ (x : Bool). unless x (Equation 2 0)) solved))
     where
       all : (cs : List Check) (c : Check) → Pass cs → c ≡ Passed → Pass (cs ++ c ∷ [])
       all [] c h e = (e, tt)

@@ -11,7 +11,8 @@ use Rattle.histories.specs.History.{Begun, held, ran}
 use Rattle.histories.proofs.Histories.{history-demand-3}
 use Rattle.forwarding.specs.Calls.{forwardCheck}
 use Rattle.forwarded.specs.Table.{HoldsBest}
-use Rattle.forwarded.proofs.Exact.{beforeEquation, best-done}
+use Rattle.forwarded.specs.Exact.{beforeEquation}
+use Rattle.forwarded.proofs.Exact.{best-done}
 
 module _ (l : Language) (n : ℕ) (a r : List ℕ) (begun : Begun l n a r) (lists : List (List ℕ)) (k : ℕ) (enough : n ≤ suc k) (swept : Stretches n k (map stepOf (ran l n a r lists))) (m number : ℕ) (s f : List ℕ) where
   -- the buffer of the history holds the best weights ..

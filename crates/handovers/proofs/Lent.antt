@@ -29,8 +29,8 @@ use Rattle.histories.proofs.Reached.{reached-formed}
 use Rattle.histories.proofs.Histories.{history-demand-3}
 use Rattle.handover.specs.Calls.{handoverChecks, handoverCheck, isBest, lenderRowBy, lenderRow, rowPart, lentRowBy, lentRow}
 use Rattle.handover.proofs.Answers.{sized}
-use Rattle.handovers.specs.Handovers.{EveryEntryBest, SettlesAll}
-use Rattle.handovers.proofs.Tested.{Lawfully, S, D, U, arcs, test-exactly}
+use Rattle.handovers.specs.Handovers.{Lawfully, EveryEntryBest, SettlesAll}
+use Rattle.handovers.proofs.Tested.{S, D, U, arcs, test-exactly}
 use Rattle.handovers.proofs.Recipe.{steps-lawfully, left-long, settled-is-best}
 
 -- the checks of a handover: what every call on A gives, two matrices of the right length, and a node

@@ -37,8 +37,8 @@ use Rattle.handover.specs.Calls.{bestWords, isBest}
 use Rattle.handover.proofs.Words.{words-exactly}
 use Rattle.histories.proofs.Reached.{length-steps}
 use Rattle.histories.proofs.Histories.{settle-number, mem-steps}
-use Rattle.handovers.specs.Handovers.{BestColumn, RowsOnly, SettlesAll}
-use Rattle.handovers.proofs.Tested.{Lawfully, call-lawfully, formed-words, net, entry-reads, only-best}
+use Rattle.handovers.specs.Handovers.{Lawfully, BestColumn, RowsOnly, SettlesAll}
+use Rattle.handovers.proofs.Tested.{call-lawfully, formed-words, net, entry-reads, only-best}
 
 -- ---- sweeping
 

@@ -22,8 +22,8 @@ use Rattle.routes.specs.Checks.{firstSettle, manyCheck, listCheck}
 use Rattle.routes.specs.Calls.{matrixOf, stepOf, stepFits, runOf, stepsCheck, stepsRow, stepsLeftBy, stepsLeft}
 use Rattle.histories.specs.History.{afterCalls}
 use Rattle.histories.proofs.Reached.{network}
-use Rattle.handovers.specs.Handovers.{BestColumn}
-use Rattle.handovers.proofs.Tested.{Lawfully, call-lawfully, net, is-best, only-best, entry-reads}
+use Rattle.handovers.specs.Handovers.{Lawfully, BestColumn}
+use Rattle.handovers.proofs.Tested.{call-lawfully, net, is-best, only-best, entry-reads}
 use Rattle.handovers.proofs.Recipe.{settled-column}
 
 module _ (l : Language) (n : ℕ) (a : List ℕ) (j : ℕ) where

@@ -37,18 +37,7 @@ use Rattle.routes.proofs.Bridge.{entry-padded}
 use Rattle.histories.proofs.Reached.{network, reached-formed, reached-reads}
 use Rattle.handover.specs.Calls.{bestWords, isBest}
 use Rattle.handover.proofs.Words.{words-exactly}
-use Rattle.handovers.specs.Handovers.{EveryEntryBest}
-
--- what the checks of every call on A give: a lawful language whose limits are 16-bit numbers, n, and well-formed arcs
-pub record Lawfully (l : Language) (n : ℕ) (a : List ℕ) : Type 0 where
-  pub nodes : nodesCheck n ≡ Passed
-  pub count : countCheck l ≡ Passed
-  pub sound : limitCheck l ≡ Passed
-  pub long : lengthCheck 1 n a ≡ Passed
-  pub law-D : lawDCheck (componentsOf l) ≡ Passed
-  pub law-U : lawUCheck (componentsOf l) ≡ Passed
-  pub arcs : arcsCheck (componentsOf l) n a ≡ Passed
-  pub limits : SmallLimits 65535 (componentsOf l)
+use Rattle.handovers.specs.Handovers.{Lawfully, EveryEntryBest}
 
 -- a call on A and R gives it
 pub call-lawfully : (l : Language) (n : ℕ) (a r : List ℕ) (rest : List Check) → SmallLimits 65535 (componentsOf l) → firstOf (matricesChecks l n a r rest) ≡ Passed → Lawfully l n a

@@ -1,15 +1,17 @@
 -- What is said of handovers: when every entry is the best, and lists of steps that repair a matrix or cannot.
 -- To be believed: all of it. The theorems are in proofs/Tested, Recipe, Stays, Lent, Settles and Worked.
 use Prim.Native.Nat.{ℕ, zero, suc, _+_, _≤_, _<_}
+use mathlib.Core.Path.{_≡_}
 use mathlib.Core.List.{List, [], _∷_, _++_}
+use Rattle.refusals.specs.declared.Check.the-variants.{Passed}
 use Rattle.algebra.specs.Path.{Mem}
 use Rattle.algebra.specs.Best.{Best}
 use Rattle.weights.specs.declared.Language.{Language}
 use Rattle.weights.specs.Sizes.{matrixSum}
 use Rattle.weights.specs.Weights.{language}
-use Rattle.weights.specs.Languages.{componentsOf}
+use Rattle.weights.specs.Languages.{componentsOf, countCheck, limitCheck, SmallLimits}
 use Rattle.matrices.specs.Buffers.{Formed}
-use Rattle.routes.specs.Checks.{firstSettle}
+use Rattle.routes.specs.Checks.{firstSettle, nodesCheck, lengthCheck, lawDCheck, lawUCheck, arcsCheck}
 use Rattle.routes.specs.Calls.{matrixOf}
 
 -- every entry of the matrix in s is the best weight over paths that visit no node twice, and none is malformed
@@ -39,3 +41,14 @@ settles (suc n) = settles n ++ ((firstSettle + n) ∷ [])
 -- the list settles every column, in any order, with any other steps before, between and after
 abbrev pub SettlesAll : ℕ → List ℕ → Type 0
 SettlesAll n list = (j : ℕ) → j < n → Mem (firstSettle + j) list
+
+-- what the checks of every call on A give: a lawful language whose limits are 16-bit numbers, n, and well-formed arcs
+pub record Lawfully (l : Language) (n : ℕ) (a : List ℕ) : Type 0 where
+  pub nodes : nodesCheck n ≡ Passed
+  pub count : countCheck l ≡ Passed
+  pub sound : limitCheck l ≡ Passed
+  pub long : lengthCheck 1 n a ≡ Passed
+  pub law-D : lawDCheck (componentsOf l) ≡ Passed
+  pub law-U : lawUCheck (componentsOf l) ≡ Passed
+  pub arcs : arcsCheck (componentsOf l) n a ≡ Passed
+  pub limits : SmallLimits 65535 (componentsOf l)

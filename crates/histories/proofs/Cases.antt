@@ -29,8 +29,8 @@ use Rattle.matrices.proofs.Malformed.{refuses-first, check-refuses}
 use Rattle.routes.specs.Checks.{nodesCheck, lengthCheck, lawDCheck, lawUCheck, arcsCheck, routesCheck, mostSteps, manyCheck, isStep, stepsFrom, listCheck}
 use Rattle.routes.specs.Calls.{matrixOf, freshCheck, matricesChecks, stepOf, stepsCheck, StepsRow, stepsRow, EquationRow, equationRow}
 use Rattle.routes.proofs.Order.{nodes-passed, length-passed, unless-passes}
-use Rattle.histories.specs.Exact.{freshSizes, sizes, sizesAndLaws, sizesLawsAndArcs, StopsAt}
-use Rattle.histories.proofs.Exact.{law-D-missing, law-U-missing, fresh-refuses, equation-refuses, steps-refuses, Eleven}
+use Rattle.histories.specs.Exact.{freshSizes, sizes, sizesAndLaws, sizesLawsAndArcs, StopsAt, Eleven}
+use Rattle.histories.proofs.Exact.{law-D-missing, law-U-missing, fresh-refuses, equation-refuses, steps-refuses}
 
 -- ---- the numbers that checks can give
 

@@ -28,7 +28,7 @@ use Rattle.weights.proofs.Decided.{D-exact, U-exact}
 use Rattle.weights.proofs.Ordering.{clash}
 use Rattle.matrices.specs.Steps.{Matrix, solves}
 use Rattle.routes.specs.Checks.{nodesCheck, lengthCheck, lawDCheck, lawUCheck, manyCheck, listCheck}
-use Rattle.histories.specs.Exact.{StepOver, StopsAt}
+use Rattle.histories.specs.Exact.{StepOver, StopsAt, Eleven}
 use Rattle.histories.proofs.Reached.{length-steps}
 use Rattle.histories.proofs.Over.{step-over, step-fits}
 use Rattle.routes.specs.Calls.{matrixOf, freshCheck, matricesChecks, stepOf, stepFits, runOf, doneOf, StepsRow, ranRow, stepsRowBy, stepsRow, equationCheck, equationRow, equationRowBy, EquationRow}
@@ -97,28 +97,24 @@ module _ (l : Language) (n : ℕ) (a r list : List ℕ) (x : Refusal) where
   abbrev count : ℕ
   count = doneOf (componentsOf l) n (matrixOf l n a) (matrixOf l n r) (map stepOf list)
 
-  -- 11 at the first step that does not fit, with every check passed
-  abbrev pub Eleven : Type 0
-  Eleven = (firstOf checks ≡ Passed) × ((k : ℕ) × (x ≡ Sum 0 k) × StopsAt (componentsOf l) n (matrixOf l n a) (matrixOf l n r) k (map stepOf list))
-
   -- The step call refuses x exactly when one of its checks gives x and all before it pass, or x is 11.
-  pub steps-refuses : (stepsRow l n a r list .told ≡ told x) ↔ (Gives checks x ⊎ Eleven)
+  pub steps-refuses : (stepsRow l n a r list .told ≡ told x) ↔ (Gives checks x ⊎ Eleven l n a r list x)
   steps-refuses = (λ e. there (firstOf checks) refl e, back)
     where
-      ran : firstOf checks ≡ Passed → (b : Bool) → ltb count (length list) ≡ b → cond b (told (Sum 0 count)) done ≡ told x → Eleven
+      ran : firstOf checks ≡ Passed → (b : Bool) → ltb count (length list) ≡ b → cond b (told (Sum 0 count)) done ≡ told x → Eleven l n a r list x
       ran p true q e = (p, (count, sym (told-one (Sum 0 count) x e), stops-exactly (componentsOf l) n (matrixOf l n a) (matrixOf l n r) count (map stepOf list) .0 (refl, rw (length-steps list) (ltb-true count (length list) q))))
       ran p false q e = absurd (told-not-done x (sym e))
 
-      there : (c : Check) → firstOf checks ≡ c → stepsRowBy c count (length list) .told ≡ told x → Gives checks x ⊎ Eleven
+      there : (c : Check) → firstOf checks ≡ c → stepsRowBy c count (length list) .told ≡ told x → Gives checks x ⊎ Eleven l n a r list x
       there Passed p e = inr (ran p (ltb count (length list)) refl e)
       there (Refused s) p e = inl (first-exactly checks x .0 (p ∙ ap Refused (told-one s x e)))
 
-      stopped : Eleven → stepsRow l n a r list .told ≡ told x
+      stopped : Eleven l n a r list x → stepsRow l n a r list .told ≡ told x
       stopped (p, (k, q, s)) =
           let h = stops-exactly (componentsOf l) n (matrixOf l n a) (matrixOf l n r) k (map stepOf list) .1 s in
           let m : k < length list = rw (length-steps list) at (h .1) in
           ap (λ (c : Check). stepsRowBy c count (length list) .told) p ∙ ap (λ (m : ℕ). ranRow m (length list) .told) (h .0) ∙ rw (lt-ltb k (length list) m) (ap told (sym q))
 
-      back : Gives checks x ⊎ Eleven → stepsRow l n a r list .told ≡ told x
+      back : Gives checks x ⊎ Eleven l n a r list x → stepsRow l n a r list .told ≡ told x
       back (inl g) = ap (λ (c : Check). stepsRowBy c count (length list) .told) (first-exactly checks x .1 g)
       back (inr s) = stopped s

@@ -2,9 +2,12 @@
 -- To be believed: all of it. That the calls give them exactly then is proofs/Exact and proofs/Cases.
 use Prim.Native.Nat.{ℕ, zero, suc, _<_}
 use mathlib.Core.Path.{_≡_}
-use mathlib.Core.List.{List, [], _∷_}
+use mathlib.Core.List.{List, [], _∷_, map}
 use mathlib.Core.Logic.{_⊎_}
+use Rattle.refusals.specs.declared.Refusal.{Refusal}
+use Rattle.refusals.specs.declared.Refusal.the-variants.{Sum}
 use Rattle.refusals.specs.declared.Check.{Check}
+use Rattle.refusals.specs.declared.Check.the-variants.{Passed}
 use Rattle.algebra.specs.Step.{Step, row, routed, step}
 use Rattle.weights.specs.declared.Component.{Component}
 use Rattle.weights.specs.declared.Component.the-variants.{Dist, Width, Class, Gain}
@@ -14,6 +17,7 @@ use Rattle.weights.specs.Weights.{Weight, none, route, language}
 use Rattle.weights.specs.Languages.{componentsOf, countCheck, limitCheck}
 use Rattle.matrices.specs.Steps.{Matrix}
 use Rattle.routes.specs.Checks.{nodesCheck, lengthCheck, lawDCheck, lawUCheck, arcsCheck}
+use Rattle.routes.specs.Calls.{matrixOf, stepOf, stepsCheck}
 
 -- ---- the checks before refusals 10 and 6
 
@@ -66,3 +70,7 @@ abbrev pub StopsAt : List Component → ℕ → Matrix → Matrix → ℕ → Li
 StopsAt cs n A R k [] = ⊥
 StopsAt cs n A R zero (s ∷ steps) = StepOver cs n A R s
 StopsAt cs n A R (suc k) (s ∷ steps) = (StepOver cs n A R s → ⊥) × StopsAt cs n A (step (language cs) n A s R) k steps
+
+-- 11: every check passes, and the first step that would store such a sum is the one told
+abbrev pub Eleven : Language → ℕ → List ℕ → List ℕ → List ℕ → Refusal → Type 0
+Eleven l n a r list x = (stepsCheck l n a r list ≡ Passed) × ((k : ℕ) × (x ≡ Sum 0 k) × StopsAt (componentsOf l) n (matrixOf l n a) (matrixOf l n r) k (map stepOf list))
