@@ -1,12 +1,11 @@
 -- The text by the reader's answer: what the calls are given after a read that is done, and the refusal of one that is not.
 use Prim.Native.Nat.{ℕ, _+_, _*_, _≤_}
 use mathlib.Core.Path.{_≡_, sym, ap, _∙_}
-use mathlib.Core.List.{List, _++_}
+use mathlib.Core.List.{List}
 use borrow.Author.Tests.{le-ltb}
 use lib.ListN.{length, take, drop}
 use lib.Seq.{take-at}
 use Rattle.refusals.specs.declared.Refusal.{Refusal}
-use Rattle.refusals.specs.declared.Told.{Told}
 use Rattle.refusals.specs.Told.{told}
 use Rattle.refusals.proofs.OneToOne.{told-not-done}
 use Rattle.weights.specs.declared.Language.{Language}
@@ -21,12 +20,12 @@ use Rattle.records.specs.Records.{listEnd}
 use Rattle.files.specs.declared.ReadAnswer.the-variants.{Done, Refused}
 use Rattle.files.specs.File.{fileRead}
 use Rattle.files.specs.Contents.{wide, columns, sizeOf, listedWords, tableWords, listOver}
-use Rattle.files.specs.Answers.{Row, rowOf, headRow, sized, ReadSays}
+use Rattle.files.specs.Answers.{Row, headRow, sized, ReadSays}
 use Rattle.files.proofs.Tables.{length-grid}
 use Rattle.files.proofs.Storing.{listed-wide}
 use Rattle.encoded.proofs.WellFormed.{done-means}
 use Rattle.texts.specs.Lines.{refusedLine}
-use Rattle.printing.specs.Printed.{Forwarding, textOf, textRead, printed}
+use Rattle.printing.specs.Printed.{textOf, textRead, printed}
 
 -- ---- the lists
 
@@ -43,10 +42,10 @@ list-lent s h list at buffer =
 
 -- ---- the text
 
-module _ (forward : Forwarding) (s a m a′ m′ : List ℕ) where
+module _ (s a m a′ m′ : List ℕ) where
   -- after a read that is done the text is that of the parts of the two buffers
   pub text-done : (n k mode : ℕ) (l : Language) → ReadSays s a m a′ m′ (Done n k mode l)
-      → printed forward s ≡ textOf forward l n k mode (take (n * (n * weightWords)) a′) (take (n * (k * entryWords)) m′)
+      → printed s ≡ textOf l n k mode (take (n * (n * weightWords)) a′) (take (n * (k * entryWords)) m′)
   unfolding printed sizeOf
   text-done n k mode l w =
       let d = done-means s a m a′ m′ n k mode l w in
@@ -56,19 +55,19 @@ module _ (forward : Forwarding) (s a m a′ m′ : List ℕ) where
       let mid : ℕ = listEnd s h Arcs (d .next) in
       let mapping : take (h .n * (h .m * entryWords)) m′ ≡ tableWords s h Attachments (mid + 2) (twoAt s mid) =
       ap (take (h .n * (h .m * entryWords))) (d .mapping-is) ∙ list-lent s h Attachments mid m in
-      ap (textRead forward s) (d .read)
-      ∙ ap (λ (x : List ℕ). textOf forward (h .language) (h .n) (h .m) (h .mode) x (tableWords s h Attachments (mid + 2) (twoAt s mid))) (sym arcs)
-      ∙ ap (textOf forward (h .language) (h .n) (h .m) (h .mode) (take (h .n * (h .n * weightWords)) a′)) (sym mapping)
-      ∙ ap (λ (x : ℕ). textOf forward (h .language) x (h .m) (h .mode) (take (x * (x * weightWords)) a′) (take (x * (h .m * entryWords)) m′)) (d .n-is)
-      ∙ ap (λ (x : ℕ). textOf forward (h .language) n x (h .mode) (take (n * (n * weightWords)) a′) (take (n * (x * entryWords)) m′)) (d .m-is)
-      ∙ ap (λ (x : ℕ). textOf forward (h .language) n k x (take (n * (n * weightWords)) a′) (take (n * (k * entryWords)) m′)) (d .mode-is)
-      ∙ ap (λ (x : Language). textOf forward x n k mode (take (n * (n * weightWords)) a′) (take (n * (k * entryWords)) m′)) (d .language-is)
+      ap (textRead s) (d .read)
+      ∙ ap (λ (x : List ℕ). textOf (h .language) (h .n) (h .m) (h .mode) x (tableWords s h Attachments (mid + 2) (twoAt s mid))) (sym arcs)
+      ∙ ap (textOf (h .language) (h .n) (h .m) (h .mode) (take (h .n * (h .n * weightWords)) a′)) (sym mapping)
+      ∙ ap (λ (x : ℕ). textOf (h .language) x (h .m) (h .mode) (take (x * (x * weightWords)) a′) (take (x * (h .m * entryWords)) m′)) (d .n-is)
+      ∙ ap (λ (x : ℕ). textOf (h .language) n x (h .mode) (take (n * (n * weightWords)) a′) (take (n * (x * entryWords)) m′)) (d .m-is)
+      ∙ ap (λ (x : ℕ). textOf (h .language) n k x (take (n * (n * weightWords)) a′) (take (n * (k * entryWords)) m′)) (d .mode-is)
+      ∙ ap (λ (x : Language). textOf x n k mode (take (n * (n * weightWords)) a′) (take (n * (k * entryWords)) m′)) (d .language-is)
 
   -- where the buffers are long enough, a refusal is the file's own
-  pub text-refused : (r : Refusal) → 1024 ≤ length a → 2560 ≤ length m → ReadSays s a m a′ m′ (Refused r) → printed forward s ≡ refusedLine (told r)
+  pub text-refused : (r : Refusal) → 1024 ≤ length a → 2560 ≤ length m → ReadSays s a m a′ m′ (Refused r) → printed s ≡ refusedLine (told r)
   unfolding printed sized
   text-refused r g h w = go (fileRead s) (rw (le-ltb _ _ g, le-ltb _ _ h) at (ap (λ (x : Row). x .told) (w .answer)))
     where
-      go : (x : HeadRead) → told r ≡ headRow x .told → textRead forward s x ≡ refusedLine (told r)
+      go : (x : HeadRead) → told r ≡ headRow x .told → textRead s x ≡ refusedLine (told r)
       go (Sound next k) e = absurd (told-not-done r e)
       go (Faulty q) e = ap refusedLine (sym e)

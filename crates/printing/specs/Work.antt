@@ -1,4 +1,5 @@
--- What the print program has worked out of a problem (01, "The printed case"): sweeps of all rows from fresh, through the calls.
+-- What the print program has worked out of a problem (01, "The printed case"): sweeps of all rows from fresh, then the forwarding
+-- table, through the calls.
 -- To be believed: all of it.
 use Prim.Native.Nat.{ℕ, _-_, _*_}
 use mathlib.Core.List.{List, [], _∷_}
@@ -7,10 +8,12 @@ use Rattle.refusals.specs.declared.Check.{Check}
 use Rattle.refusals.specs.declared.Check.the-variants.{Passed, Refused}
 use Rattle.refusals.specs.declared.Told.{Told}
 use Rattle.refusals.specs.Told.{told}
+use Rattle.refusals.specs.Checks.{checkTold}
 use Rattle.weights.specs.declared.Language.{Language}
-use Rattle.weights.specs.Sizes.{weightWords}
+use Rattle.weights.specs.Sizes.{weightWords, entryWords}
 use Rattle.matrices.specs.Buffers.{blocks}
 use Rattle.routes.specs.Calls.{freshCheck, freshLeft, stepsRow, stepsLeft}
+use Rattle.forwarding.specs.Calls.{forwardCheck, forwardLeft}
 
 -- rows 0..n-1 in order
 abbrev pub sweep : ℕ → List ℕ
@@ -39,3 +42,14 @@ routesLeft l n a r = routesLeftBy (freshCheck l n r) l n a r
 -- a buffer for an n x n matrix
 abbrev pub blank : ℕ → List ℕ
 blank n = replicate (n * (n * weightWords)) 0
+
+-- The forwarding call on arcs a, routes r, mapping s and a buffer f: what is told, and what f holds then.
+unfoldable pub tableTold : Language → ℕ → ℕ → ℕ → List ℕ → List ℕ → List ℕ → List ℕ → Told
+tableTold l n m mode a r s f = checkTold (forwardCheck l n m mode a r s f)
+
+unfoldable pub tableLeft : Language → ℕ → ℕ → ℕ → List ℕ → List ℕ → List ℕ → List ℕ → List ℕ
+tableLeft l n m mode a r s f = forwardLeft l n m mode a r s f
+
+-- a buffer for a table of n nodes and m destinations
+abbrev pub blankTable : ℕ → ℕ → List ℕ
+blankTable n m = replicate (n * (m * entryWords)) 0

@@ -1,4 +1,5 @@
-// The work: a list of sweeps over all rows, run from fresh.
+// The work: a list of sweeps over all rows, run from fresh; then the forwarding table.
+use forwarding::forward::forward;
 use refusals::Answer;
 use refusals::Told;
 use refusals::tell;
@@ -10,7 +11,7 @@ ghost use mathlib.Core.Path.{_≡_};
 ghost use Prim.Native.Nat.{_+_, _-_, _*_, _≤_, _<_};
 ghost use lib.ListN.{length};
 ghost use Rattle.decimals.specs.Texts.{Put};
-ghost use Rattle.printing.specs.Work.{sweep, sweeps, routesTold, routesLeft};
+ghost use Rattle.printing.specs.Work.{sweep, sweeps, routesTold, routesLeft, tableTold, tableLeft};
 
 // Puts 0..n-1 from `at` on.
 fn put_sweep(n: usize, at: usize, list: &mut [u32])
@@ -61,6 +62,36 @@ pub fn work_routes(l: Language, n: usize, a: &[u32], r: &mut [u32]) -> Told
                     return tell(refusal);
                 }
             }
+        }
+    }
+}
+
+// Applies the routes r to a mapping table, into a buffer f; returns what the call tells.
+pub fn work_table(
+    l: Language,
+    n: usize,
+    m: usize,
+    mode: u32,
+    a: &[u32],
+    r: &[u32],
+    mapping: &[u32],
+    f: &mut [u32],
+) -> Told
+    requires { ⌜ (n ≤ 16) × (m ≤ 32) ⌝ }
+    ensures { λ t. ⌜ t ≡ tableTold l n m mode (now (a .entry)) (now (r .entry)) (now (mapping .entry)) (now (f .entry)) ⌝ }
+    ensures { λ _. ⌜ now (f .exit) ≡ tableLeft l n m mode (now (a .entry)) (now (r .entry)) (now (mapping .entry)) (now (f .entry)) ⌝ }
+{
+    let answer = forward(l, n as u32, m as u32, mode, a, r, mapping, f);
+    match answer {
+        Answer::Refused(x) => {
+            return tell(x);
+        }
+        Answer::Done => {
+            return Told {
+                number: 0,
+                which: 0,
+                place: 0,
+            };
         }
     }
 }
