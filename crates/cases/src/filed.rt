@@ -11,7 +11,7 @@ use weights::Component;
 use weights::Language;
 
 // The bytes of a file that has one in each word.
-fn to_bytes(words: &[u32], bytes: &mut [u8]) {
+pub fn to_bytes(words: &[u32], bytes: &mut [u8]) {
     let mut i: usize = 0;
     while i < words.len() {
         if bytes.len() <= i {

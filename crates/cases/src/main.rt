@@ -5,6 +5,7 @@
 // 4294967295 where a buffer is too long for this program. A request that does not add up ends the program.
 mod filed;
 mod lent;
+mod printed;
 mod report;
 mod routing;
 mod shared;
@@ -25,6 +26,7 @@ fn answer(words: &[u32]) -> bool {
         7 => lent::lent_call(words),
         8 => lent::which_call(words),
         9 => filed::read_call(words),
+        10 => printed::print_call(words),
         _ => false,
     }
 }

@@ -4,8 +4,8 @@
 use std::fmt;
 
 use reference::{
-    equation, forward, fresh, laws, lent_row, next_hop, read, steps, which_refusal, Component,
-    Language, Lent, Refusal,
+    equation, forward, fresh, laws, lent_row, next_hop, print, read, steps, which_refusal,
+    Component, Language, Lent, Refusal,
 };
 
 /// Count, then kind and limit for each of four places.
@@ -22,10 +22,11 @@ pub enum Kind {
     LentRow = 7,
     WhichRefusal = 8,
     Read = 9,
+    Print = 10,
 }
 
 impl Kind {
-    pub const ALL: [Kind; 9] = [
+    pub const ALL: [Kind; 10] = [
         Kind::Laws,
         Kind::Fresh,
         Kind::Steps,
@@ -35,6 +36,7 @@ impl Kind {
         Kind::LentRow,
         Kind::WhichRefusal,
         Kind::Read,
+        Kind::Print,
     ];
 
     pub fn name(self) -> &'static str {
@@ -48,6 +50,7 @@ impl Kind {
             Kind::LentRow => "lent row",
             Kind::WhichRefusal => "which refusal",
             Kind::Read => "read",
+            Kind::Print => "print",
         }
     }
 
@@ -61,6 +64,7 @@ impl Kind {
             Kind::Forward => &["a", "r", "mapping", "f"],
             Kind::LentRow | Kind::WhichRefusal => &["a", "standing", "newer"],
             Kind::Read => &["file", "arcs", "mapping"],
+            Kind::Print => &["file"],
         }
     }
 
@@ -124,8 +128,8 @@ impl Kind {
                 (10, 1),
                 (10, 2),
             ],
-            // the part that is lent tells no refusal
-            Kind::LentRow => &[],
+            // the part that is lent tells no refusal, and a text tells it in words
+            Kind::LentRow | Kind::Print => &[],
             Kind::WhichRefusal => &[
                 (3, 1),
                 (4, 0),
@@ -240,6 +244,7 @@ impl Call {
                 answer(refusal, &[lender], &[])
             }
             (Kind::Read, [file, arcs, mapping]) => expected_read(file, arcs, mapping),
+            (Kind::Print, [file]) => expected_text(&print(&bytes_of(file))),
             _ => panic!("{} has other buffers", self.kind.name()),
         }
     }
@@ -261,8 +266,33 @@ fn expected_laws(language: &Language) -> AnswerWords {
 }
 
 /// A file has a byte in each word.
+fn bytes_of(file: &[u32]) -> Vec<u8> {
+    file.iter().map(|word| *word as u8).collect()
+}
+
+/// The length of the text, and its bytes four to a word, the lowest byte first, with zeros after them.
+fn expected_text(text: &str) -> AnswerWords {
+    let word = |four: &[u8]| {
+        four.iter()
+            .rev()
+            .fold(0, |word, byte| word << 8 | u32::from(*byte))
+    };
+    let words: Vec<u32> = text.as_bytes().chunks(4).map(word).collect();
+    answer(Refusal::DONE, &[text.len() as u32], &words)
+}
+
+/// The text that an answer of this kind holds.
+pub fn text_of(answer: &[u32]) -> String {
+    let bytes: Vec<u8> = answer[4..]
+        .iter()
+        .flat_map(|word| word.to_le_bytes())
+        .take(answer[3] as usize)
+        .collect();
+    String::from_utf8_lossy(&bytes).into_owned()
+}
+
 fn expected_read(file: &[u32], arcs: &[u32], mapping: &[u32]) -> AnswerWords {
-    let bytes: Vec<u8> = file.iter().map(|word| *word as u8).collect();
+    let bytes = bytes_of(file);
     let (mut arcs, mut mapping) = (arcs.to_vec(), mapping.to_vec());
     let said = read(&bytes, &mut arcs, &mut mapping);
     let sizes = [said.n, said.m, said.mode];
@@ -351,6 +381,14 @@ mod tests {
             assert_eq!(component_of(kind, limit), Component::Width(0));
         }
         assert_eq!(component_of(3, 65_535), Component::Class(65_535));
+    }
+
+    #[test]
+    fn a_text_is_packed_and_read_back() {
+        assert_eq!(expected_text("ABCDE"), [0, 0, 0, 5, 0x4443_4241, 0x45]);
+        for text in ["", "R", "LAWS 1 1 1\n"] {
+            assert_eq!(text_of(&expected_text(text)), text);
+        }
     }
 
     #[test]

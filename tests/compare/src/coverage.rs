@@ -4,7 +4,7 @@
 use std::collections::BTreeMap;
 use std::fmt;
 
-use crate::calls::{AnswerWords, Call, Kind};
+use crate::calls::{text_of, AnswerWords, Call, Kind};
 
 #[derive(Default)]
 pub struct Coverage {
@@ -24,7 +24,10 @@ impl Coverage {
         self.words += answer.len() as u64;
         let key = (call.kind, number, which);
         *self.answers.entry(key).or_default() += 1;
-        let without_nodes = matches!(call.kind, Kind::Laws | Kind::LentRow | Kind::Read);
+        let without_nodes = matches!(
+            call.kind,
+            Kind::Laws | Kind::LentRow | Kind::Read | Kind::Print
+        );
         if number == 0 && !without_nodes {
             *self.nodes.entry(call.n).or_default() += 1;
         }
@@ -44,17 +47,33 @@ impl Coverage {
 
     /// The answers that a call can give and that none gave.
     pub fn missing(&self) -> Vec<String> {
-        let mut missing = Vec::new();
-        for kind in Kind::ALL {
-            for (number, which) in [&[(0, 0)], kind.refusals()].concat() {
-                if self.count(kind, number, which) == 0 {
-                    missing.push(format!("{} {number} {which}", kind.name()));
-                }
-            }
-        }
-        let unseen = NOTABLE.iter().filter(|name| !self.seen.contains_key(*name));
-        missing.extend(unseen.map(|name| name.to_string()));
+        let mut missing: Vec<String> = Kind::ALL
+            .iter()
+            .flat_map(|kind| self.missing_of(*kind))
+            .collect();
+        missing.extend(self.unseen(&NOTABLE));
         missing
+    }
+
+    /// Of reading and printing alone, where each buffer is long enough.
+    pub fn missing_of_files(&self) -> Vec<String> {
+        let mut missing = self.missing_of(Kind::Read);
+        missing.retain(|answer| !answer.starts_with("read 9"));
+        missing.extend(self.unseen(&NOTABLE[FIRST_OF_FILES..]));
+        missing
+    }
+
+    fn missing_of(&self, kind: Kind) -> Vec<String> {
+        let answers = [&[(0, 0)], kind.refusals()].concat().into_iter();
+        let never = answers.filter(|(number, which)| self.count(kind, *number, *which) == 0);
+        never
+            .map(|(number, which)| format!("{} {number} {which}", kind.name()))
+            .collect()
+    }
+
+    fn unseen(&self, names: &[&str]) -> Vec<String> {
+        let unseen = names.iter().filter(|name| !self.seen.contains_key(*name));
+        unseen.map(|name| name.to_string()).collect()
     }
 
     fn kind_line(&self, kind: Kind) -> String {
@@ -73,8 +92,10 @@ impl Coverage {
     }
 }
 
+/// Of these the first that a file's answer can be.
+const FIRST_OF_FILES: usize = 13;
 /// What a long run must have met besides every refusal.
-const NOTABLE: [&str; 14] = [
+const NOTABLE: [&str; 20] = [
     "11 after earlier steps",
     "a settle done",
     "the equation holds",
@@ -89,6 +110,12 @@ const NOTABLE: [&str; 14] = [
     "an empty part lent",
     "7 on j",
     "a file with attachments",
+    "a bad file printed",
+    "10 printed for the routes",
+    "routes printed alone",
+    "10 printed for the table",
+    "a plain table printed",
+    "a table with t printed",
 ];
 
 /// Which of these an answer is.
@@ -127,6 +154,18 @@ fn notable(call: &Call, answer: &AnswerWords) -> Vec<&'static str> {
             note(answer[3] == 5, NOTABLE[10]);
         }
         Kind::Read => note(done && answer[4] > 0, NOTABLE[13]),
+        Kind::Print => {
+            let text = text_of(answer);
+            let has = |start: &str| text.lines().any(|line| line.starts_with(start));
+            let (routes, table, refused) = (has("R "), has("F "), has("REFUSED 10"));
+            let plain = call.buffers[0].get(7) == Some(&1);
+            note(text.starts_with("REFUSED"), NOTABLE[14]);
+            note(!routes && refused, NOTABLE[15]);
+            note(routes && !table && !has("REFUSED"), NOTABLE[16]);
+            note(routes && refused, NOTABLE[17]);
+            note(table && plain, NOTABLE[18]);
+            note(table && !plain, NOTABLE[19]);
+        }
     }
     names
 }

@@ -25,7 +25,7 @@ const BAD_NODES: [u32; 8] = [0, 17, 18, 255, 256, 65_537, 1 << 30, u32::MAX];
 /// The call of a seed.
 pub fn call(seed: u64) -> Call {
     let mut dice = Dice::new(seed);
-    match dice.below(40) {
+    match dice.below(44) {
         0..=2 => laws_call(&mut dice),
         3..=4 => fresh_call(&mut dice),
         5..=11 => steps_call(&mut dice),
@@ -34,7 +34,8 @@ pub fn call(seed: u64) -> Call {
         24..=27 => hop_call(&mut dice),
         28..=31 => handover_call(&mut dice, Kind::LentRow),
         32..=35 => handover_call(&mut dice, Kind::WhichRefusal),
-        _ => read_call(&mut dice),
+        36..=39 => read_call(&mut dice),
+        _ => print_call(&mut dice),
     }
 }
 
@@ -184,18 +185,78 @@ fn torn_entry(dice: &mut Dice, words: &mut [u32]) {
     }
 }
 
+/// The file of a seed: sound, damaged, or a sound one cut, at each offset in turn as seeds go up.
+pub fn file(seed: u64) -> Vec<u8> {
+    let mut dice = Dice::new(seed);
+    match seed % 10 {
+        0..=3 => any_sound_file(&mut dice),
+        4..=7 => any_damaged_file(&mut dice),
+        _ => cut_file(seed / 10),
+    }
+}
+
+/// Every 200 turns another sound file is cut; with an odd turn its count is put right.
+fn cut_file(turn: u64) -> Vec<u8> {
+    let mut file = any_sound_file(&mut Dice::new(turn / 200));
+    let at = (turn % 200) as usize / 2;
+    file.truncate(at);
+    if turn % 2 == 1 && at >= 4 {
+        let count = (at - 4) as u32;
+        file[..4].copy_from_slice(&count.to_be_bytes());
+    }
+    file
+}
+
+fn any_sound_file(dice: &mut Dice) -> Vec<u8> {
+    let mut file = sound_file(dice);
+    file.truncate(FILE_ROOM);
+    file
+}
+
+fn any_damaged_file(dice: &mut Dice) -> Vec<u8> {
+    let mut file = damaged_file(dice);
+    file.truncate(FILE_ROOM);
+    file
+}
+
+fn any_file(dice: &mut Dice, sound: u64) -> Vec<u8> {
+    if dice.percent(sound) {
+        any_sound_file(dice)
+    } else {
+        any_damaged_file(dice)
+    }
+}
+
+fn words_of(file: &[u8]) -> Vec<u32> {
+    file.iter().map(|byte| u32::from(*byte)).collect()
+}
+
+/// The file of a seed, read into buffers of the least length, and printed.
+pub fn file_calls(seed: u64) -> [Call; 2] {
+    let mut dice = Dice::new(seed);
+    let bytes = words_of(&file(seed));
+    let mut filled = |room: usize| (0..room).map(|_| dice.roll() as u32).collect();
+    let buffers = vec![bytes.clone(), filled(ARC_ROOM), filled(MAPPING_ROOM)];
+    [
+        Call::new(Kind::Read, [0; 9], 0, buffers),
+        Call::new(Kind::Print, [0; 9], 0, vec![bytes]),
+    ]
+}
+
 /// A file with a byte in each word, and buffers that are mostly long enough.
 fn read_call(dice: &mut Dice) -> Call {
-    let mut file = if dice.percent(40) {
-        sound_file(dice)
-    } else {
-        damaged_file(dice)
-    };
-    file.truncate(FILE_ROOM);
-    let bytes = file.iter().map(|byte| u32::from(*byte)).collect();
+    let bytes = words_of(&any_file(dice, 40));
     let arcs = buffer_for(dice, ARC_ROOM);
     let mapping = buffer_for(dice, MAPPING_ROOM);
     let mut call = Call::new(Kind::Read, [0; 9], 0, vec![bytes, arcs, mapping]);
+    fill_unused(dice, &mut call);
+    call
+}
+
+/// A file alone, more often sound.
+fn print_call(dice: &mut Dice) -> Call {
+    let bytes = words_of(&any_file(dice, 70));
+    let mut call = Call::new(Kind::Print, [0; 9], 0, vec![bytes]);
     fill_unused(dice, &mut call);
     call
 }
@@ -286,7 +347,7 @@ fn spoil_component(dice: &mut Dice, language: &mut LanguageWords) {
 fn matrices(call: &Call) -> std::ops::Range<usize> {
     match call.kind {
         Kind::LentRow | Kind::WhichRefusal => 0..3,
-        Kind::Read => 0..0,
+        Kind::Read | Kind::Print => 0..0,
         _ => 0..call.buffers.len().min(2),
     }
 }

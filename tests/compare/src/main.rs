@@ -1,5 +1,6 @@
-//! compare [--calls N] [--seed S] COMMAND [WORDS..]: sends generated calls to the program that the command starts, and
-//! compares every answer and every word of every buffer with the independent implementation. Call k has the seed S + k.
+//! compare [--calls N | --files N] [--seed S] COMMAND [WORDS..]: sends generated calls to the program that the command
+//! starts, and compares every answer and every word of every buffer with the independent implementation. Call k has the
+//! seed S + k. With --files they are problem files, each of which is read and then printed.
 #![forbid(unsafe_code)]
 
 mod program;
@@ -14,13 +15,16 @@ use compare::coverage::Coverage;
 use compare::generate;
 use program::Program;
 
-/// From this many calls on, each answer that a call can give must have been met.
-const ENOUGH: u64 = 50_000;
+/// From this many calls, or files, on, each answer that can be given must have been met.
+const ENOUGH_CALLS: u64 = 50_000;
+const ENOUGH_FILES: u64 = 2_000;
 /// Calls that are sent in one write.
 const BATCH: u64 = 32;
 
 struct Options {
-    calls: u64,
+    /// How many calls, or files.
+    count: u64,
+    files: bool,
     seed: u64,
     command: Vec<String>,
 }
@@ -32,11 +36,14 @@ fn main() -> ExitCode {
     let options = match options(std::env::args().skip(1).collect()) {
         Ok(options) => options,
         Err(fault) => {
-            eprintln!("{fault}\nusage: compare [--calls N] [--seed S] COMMAND [WORDS..]");
+            eprintln!(
+                "{fault}\nusage: compare [--calls N | --files N] [--seed S] COMMAND [WORDS..]"
+            );
             return ExitCode::from(2);
         }
     };
-    println!("seed {}, {} calls", options.seed, options.calls);
+    let what = if options.files { "files" } else { "calls" };
+    println!("seed {}, {} {what}", options.seed, options.count);
     match compare(&options) {
         Ok(coverage) => judged(&options, &coverage),
         Err(fault) => {
@@ -48,14 +55,16 @@ fn main() -> ExitCode {
 
 fn options(words: Vec<String>) -> Result<Options, String> {
     let mut options = Options {
-        calls: 120_000,
+        count: 120_000,
+        files: false,
         seed: 1,
         command: Vec::new(),
     };
     let mut words = words.into_iter();
     while let Some(word) = words.next() {
         match word.as_str() {
-            "--calls" => options.calls = number(words.next())?,
+            "--calls" => options.count = number(words.next())?,
+            "--files" => (options.count, options.files) = (number(words.next())?, true),
             "--seed" => options.seed = number(words.next())?,
             _ => {
                 options.command = std::iter::once(word).chain(words).collect();
@@ -71,11 +80,23 @@ fn number(word: Option<String>) -> Result<u64, String> {
     word.parse().map_err(|_| format!("no number: '{word}'"))
 }
 
+fn enough(options: &Options) -> u64 {
+    if options.files {
+        ENOUGH_FILES
+    } else {
+        ENOUGH_CALLS
+    }
+}
+
 /// Prints what was met; a long run that misses an answer fails.
 fn judged(options: &Options, coverage: &Coverage) -> ExitCode {
     print!("{coverage}");
-    let missing = coverage.missing();
-    if options.calls >= ENOUGH && !missing.is_empty() {
+    let missing = if options.files {
+        coverage.missing_of_files()
+    } else {
+        coverage.missing()
+    };
+    if options.count >= enough(options) && !missing.is_empty() {
         println!("never met: {}", missing.join(", "));
         return ExitCode::FAILURE;
     }
@@ -87,8 +108,8 @@ fn compare(options: &Options) -> Result<Coverage, String> {
     let (mut program, input) = Program::start(&options.command)
         .map_err(|fault| format!("cannot start {}: {fault}", options.command.join(" ")))?;
     let (sender, receiver) = sync_channel(4);
-    let (first, calls) = (options.seed, options.calls);
-    let writer = thread::spawn(move || write_calls(input, sender, first, calls));
+    let (first, count, files) = (options.seed, options.count, options.files);
+    let writer = thread::spawn(move || write_calls(input, sender, (first, count), files));
     let compared = read_answers(&mut program, &receiver);
     drop(receiver);
     let Ok(coverage) = compared else {
@@ -109,14 +130,14 @@ fn compare(options: &Options) -> Result<Coverage, String> {
 fn write_calls(
     mut input: ChildStdin,
     sender: SyncSender<Vec<Seeded>>,
-    first: u64,
-    calls: u64,
+    (first, count): (u64, u64),
+    files: bool,
 ) -> io::Result<()> {
     let mut made = 0;
-    while made < calls {
-        let until = calls.min(made + BATCH);
+    while made < count {
+        let until = count.min(made + BATCH);
         let seeds = (made..until).map(|index| first.wrapping_add(index));
-        let batch: Vec<Seeded> = seeds.map(|seed| (seed, generate::call(seed))).collect();
+        let batch: Vec<Seeded> = seeds.flat_map(|seed| calls_of(seed, files)).collect();
         let frames: Vec<Vec<u8>> = batch
             .iter()
             .map(|(_, call)| program::frame(&call.request()))
@@ -128,6 +149,16 @@ fn write_calls(
         made = until;
     }
     Ok(())
+}
+
+/// The call of a seed, or the two calls of its file.
+fn calls_of(seed: u64, files: bool) -> Vec<Seeded> {
+    let calls = if files {
+        generate::file_calls(seed).to_vec()
+    } else {
+        vec![generate::call(seed)]
+    };
+    calls.into_iter().map(|call| (seed, call)).collect()
 }
 
 /// Reads the answer of each call and compares it.
@@ -149,7 +180,7 @@ fn read_answers(
 
 fn told(seed: u64, call: &Call, expected: &AnswerWords) -> String {
     format!(
-        "seed {seed} (again: --seed {seed} --calls 1)\n{call}independent: {}\n",
+        "seed {seed} (again: --seed {seed}, with 1 for the count)\n{call}independent: {}\n",
         spaced(expected)
     )
 }
