@@ -76,13 +76,17 @@ impl Coverage {
         unseen.map(|name| name.to_string()).collect()
     }
 
+    fn calls_of(&self, kind: Kind) -> u64 {
+        let of_kind = self.answers.iter().filter(|((k, _, _), _)| *k == kind);
+        of_kind.map(|(_, count)| count).sum()
+    }
+
     fn kind_line(&self, kind: Kind) -> String {
         let counted = |(number, which): &(u32, u32)| {
             format!("{number} {which}: {}", self.count(kind, *number, *which))
         };
         let refused: Vec<String> = kind.refusals().iter().map(counted).collect();
-        let of_kind = self.answers.iter().filter(|((k, _, _), _)| *k == kind);
-        let calls: u64 = of_kind.map(|(_, count)| count).sum();
+        let calls = self.calls_of(kind);
         let done = self.count(kind, 0, 0);
         let name = kind.name();
         format!(
@@ -181,15 +185,20 @@ fn listed<K>(counts: &BTreeMap<K, u64>, name: impl Fn(&K) -> String) -> String {
 impl fmt::Display for Coverage {
     fn fmt(&self, f: &mut fmt::Formatter) -> fmt::Result {
         writeln!(f, "{} calls, {} words compared", self.calls, self.words)?;
-        for kind in Kind::ALL {
+        for kind in Kind::ALL
+            .into_iter()
+            .filter(|kind| self.calls_of(*kind) > 0)
+        {
             writeln!(f, "{}", self.kind_line(kind))?;
         }
-        writeln!(f, "done by nodes: {}", listed(&self.nodes, u32::to_string))?;
-        writeln!(
-            f,
-            "steps run {}, the most in a call {}",
-            self.steps_run, self.longest_run
-        )?;
+        if !self.nodes.is_empty() {
+            writeln!(f, "done by nodes: {}", listed(&self.nodes, u32::to_string))?;
+            writeln!(
+                f,
+                "steps run {}, the most in a call {}",
+                self.steps_run, self.longest_run
+            )?;
+        }
         writeln!(f, "{}", listed(&self.seen, |name| name.to_string()))
     }
 }

@@ -185,23 +185,26 @@ fn torn_entry(dice: &mut Dice, words: &mut [u32]) {
     }
 }
 
-/// The file of a seed: sound, damaged, or a sound one cut, at each offset in turn as seeds go up.
+/// Cuts of one file: at each offset below this, as it is and with its count put right.
+const CUTS: u64 = 200;
+
+/// The file of a seed: sound, damaged, or a sound one that is cut.
 pub fn file(seed: u64) -> Vec<u8> {
     let mut dice = Dice::new(seed);
     match seed % 10 {
         0..=3 => any_sound_file(&mut dice),
         4..=7 => any_damaged_file(&mut dice),
-        _ => cut_file(seed / 10),
+        8 => cut_file(seed / 10, false),
+        _ => cut_file(seed / 10, true),
     }
 }
 
-/// Every 200 turns another sound file is cut; with an odd turn its count is put right.
-fn cut_file(turn: u64) -> Vec<u8> {
-    let mut file = any_sound_file(&mut Dice::new(turn / 200));
-    let at = (turn % 200) as usize / 2;
-    file.truncate(at);
-    if turn % 2 == 1 && at >= 4 {
-        let count = (at - 4) as u32;
+/// One file after the other, each cut at every offset in turn.
+fn cut_file(turn: u64, recounted: bool) -> Vec<u8> {
+    let mut file = any_sound_file(&mut Dice::new(turn / CUTS));
+    file.truncate((turn % CUTS) as usize);
+    if recounted && file.len() >= 4 {
+        let count = (file.len() - 4) as u32;
         file[..4].copy_from_slice(&count.to_be_bytes());
     }
     file
@@ -422,6 +425,15 @@ mod tests {
             assert_eq!(call(seed), call(seed));
         }
         assert_ne!(call(1), call(2));
+    }
+
+    #[test]
+    fn a_file_is_cut_at_every_offset() {
+        let whole = any_sound_file(&mut Dice::new(0));
+        for at in 0..whole.len().min(CUTS as usize) {
+            assert_eq!(cut_file(at as u64, false), whole[..at]);
+            assert_eq!(cut_file(at as u64, true).len(), at);
+        }
     }
 
     #[test]
