@@ -1,4 +1,5 @@
-// Prints the text of a problem file that is read from a descriptor. Only the reading and the writing of descriptors is not proved.
+// Prints the text of a problem file that is read from a descriptor; input over 65,536 bytes is refused. The text itself is proved
+// (`print_text`); what is read and written here no contract can say, so it is run and compared.
 pub fn print_from(fd: i32) {
     let mut file = io::large_buffer();
     let size = io::read_full(fd, &mut file);

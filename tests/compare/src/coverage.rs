@@ -55,6 +55,14 @@ impl Coverage {
         missing
     }
 
+    /// Of the exported calls alone: all but the printed text.
+    pub fn missing_of_exports(&self) -> Vec<String> {
+        let exported = Kind::ALL.iter().filter(|kind| **kind != Kind::Print);
+        let mut missing: Vec<String> = exported.flat_map(|kind| self.missing_of(*kind)).collect();
+        missing.extend(self.unseen(&NOTABLE[..FIRST_OF_PRINTING]));
+        missing
+    }
+
     /// Of reading and printing alone, where each buffer is long enough.
     pub fn missing_of_files(&self) -> Vec<String> {
         let mut missing = self.missing_of(Kind::Read);
@@ -98,6 +106,8 @@ impl Coverage {
 
 /// Of these the first that a file's answer can be.
 const FIRST_OF_FILES: usize = 13;
+/// From here on they are of printing.
+const FIRST_OF_PRINTING: usize = 14;
 /// What a long run must have met besides every refusal.
 const NOTABLE: [&str; 20] = [
     "11 after earlier steps",

@@ -145,6 +145,7 @@ pub fn ask(request: &Request, lent: &mut Lent) -> Reply {
         Kind::Forward => ask_forward(call, lent),
         Kind::NextHop => ask_next_hop(call, lent),
         Kind::LentRow | Kind::WhichRefusal => ask_handover(call, lent),
+        Kind::Print => panic!("the printed text is not exported"),
     }
 }
 

@@ -118,7 +118,7 @@ fn judged(options: &Options, met: &Met) -> ExitCode {
         "of {lines} lines of docs/REFUSALS.md met: {}",
         lines - unmet.len()
     );
-    let mut missing = [met.coverage.missing(), unmet].concat();
+    let mut missing = [met.coverage.missing_of_exports(), unmet].concat();
     let unseen = others.iter().filter(|(_, count)| *count == 0);
     missing.extend(unseen.map(|(name, _)| name.to_string()));
     if options.calls >= ENOUGH && !missing.is_empty() {

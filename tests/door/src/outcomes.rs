@@ -93,6 +93,7 @@ pub fn expected(request: &Request, answer: &AnswerWords) -> Outcome {
         Kind::NextHop => {}
         Kind::LentRow | Kind::WhichRefusal => handover_outcome(call, &mut outcome),
         Kind::Read => read_outcome(request, answer, &mut outcome),
+        Kind::Print => panic!("the printed text is not exported"),
     }
     outcome
 }

@@ -25,6 +25,7 @@ fn call_of(kind: Kind) -> Call {
         Kind::NextHop => Call::NextHop,
         Kind::LentRow | Kind::WhichRefusal => Call::Handover,
         Kind::Read => Call::Read,
+        Kind::Print => panic!("the printed text is not exported"),
     }
 }
 
