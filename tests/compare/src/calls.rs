@@ -314,7 +314,7 @@ fn component_of(kind: u32, limit: u32) -> Component {
     }
 }
 
-fn language_of(words: &LanguageWords) -> Language {
+pub fn language_of(words: &LanguageWords) -> Language {
     let place = |index: usize| component_of(words[1 + 2 * index], words[2 + 2 * index]);
     Language {
         count: words[0],

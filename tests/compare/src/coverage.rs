@@ -4,7 +4,9 @@
 use std::collections::BTreeMap;
 use std::fmt;
 
-use crate::calls::{text_of, AnswerWords, Call, Kind};
+use reference::{equation, Refusal};
+
+use crate::calls::{language_of, text_of, AnswerWords, Call, Kind};
 
 #[derive(Default)]
 pub struct Coverage {
@@ -51,7 +53,9 @@ impl Coverage {
             .iter()
             .flat_map(|kind| self.missing_of(*kind))
             .collect();
-        missing.extend(self.unseen(&NOTABLE));
+        for names in [&OF_CALLS[..], &OF_READING, &OF_PRINTING] {
+            missing.extend(self.unseen(names));
+        }
         missing
     }
 
@@ -59,7 +63,8 @@ impl Coverage {
     pub fn missing_of_exports(&self) -> Vec<String> {
         let exported = Kind::ALL.iter().filter(|kind| **kind != Kind::Print);
         let mut missing: Vec<String> = exported.flat_map(|kind| self.missing_of(*kind)).collect();
-        missing.extend(self.unseen(&NOTABLE[..FIRST_OF_PRINTING]));
+        missing.extend(self.unseen(&OF_CALLS));
+        missing.extend(self.unseen(&OF_READING));
         missing
     }
 
@@ -67,7 +72,8 @@ impl Coverage {
     pub fn missing_of_files(&self) -> Vec<String> {
         let mut missing = self.missing_of(Kind::Read);
         missing.retain(|answer| !answer.starts_with("read 9"));
-        missing.extend(self.unseen(&NOTABLE[FIRST_OF_FILES..]));
+        missing.extend(self.unseen(&OF_READING));
+        missing.extend(self.unseen(&OF_PRINTING));
         missing
     }
 
@@ -104,12 +110,8 @@ impl Coverage {
     }
 }
 
-/// Of these the first that a file's answer can be.
-const FIRST_OF_FILES: usize = 13;
-/// From here on they are of printing.
-const FIRST_OF_PRINTING: usize = 14;
-/// What a long run must have met besides every refusal.
-const NOTABLE: [&str; 20] = [
+/// What a long run must have met besides every refusal: of the calls on a network ..
+const OF_CALLS: [&str; 15] = [
     "11 after earlier steps",
     "a settle done",
     "the equation holds",
@@ -123,7 +125,13 @@ const NOTABLE: [&str; 20] = [
     "the standing row lent",
     "an empty part lent",
     "7 on j",
-    "a file with attachments",
+    "an equation that holds lends the standing row",
+    "a malformed matrix lends the standing row",
+];
+/// .. of reading ..
+const OF_READING: [&str; 1] = ["a file with attachments"];
+/// .. and of printing.
+const OF_PRINTING: [&str; 6] = [
     "a bad file printed",
     "10 printed for the routes",
     "routes printed alone",
@@ -144,41 +152,47 @@ fn notable(call: &Call, answer: &AnswerWords) -> Vec<&'static str> {
     match call.kind {
         Kind::Laws | Kind::Fresh => {}
         Kind::Steps => {
-            note(answer[0] == 11 && answer[3] > 0, NOTABLE[0]);
+            note(answer[0] == 11 && answer[3] > 0, "11 after earlier steps");
             let settles = call.buffers[2].iter().any(|step| *step >= 256);
-            note(done && settles, NOTABLE[1]);
+            note(done && settles, "a settle done");
         }
         Kind::Equation => {
-            note(done && answer[3] == 1, NOTABLE[2]);
-            note(done && answer[3] == 0, NOTABLE[3]);
+            note(done && answer[3] == 1, "the equation holds");
+            note(done && answer[3] == 0, "the equation does not hold");
         }
         Kind::Forward => {
-            note(done && call.mode == 1, NOTABLE[4]);
-            note(done && call.mode == 2, NOTABLE[5]);
-            note(done && call.mode == 3, NOTABLE[6]);
+            note(done && call.mode == 1, "forwarded plain");
+            note(done && call.mode == 2, "forwarded hot");
+            note(done && call.mode == 3, "forwarded cold");
         }
         Kind::NextHop => {
-            note(done && answer[3] == 1, NOTABLE[7]);
-            note(done && answer[3] == 0, NOTABLE[8]);
-            note(answer[0] == 7 && answer[2] == 1, NOTABLE[12]);
+            note(done && answer[3] == 1, "a next hop");
+            note(done && answer[3] == 0, "no next hop");
+            note(answer[0] == 7 && answer[2] == 1, "7 on j");
         }
-        Kind::LentRow => note(answer[3] == 0, NOTABLE[11]),
+        Kind::LentRow => note(answer[3] == 0, "an empty part lent"),
         Kind::WhichRefusal => {
-            note(answer[3] == 2, NOTABLE[9]);
-            note(answer[3] == 5, NOTABLE[10]);
+            note(answer[3] == 2, "the new row lent");
+            note(answer[3] == 5, "the standing row lent");
+            if answer[3] == 5 {
+                let (refusal, holds) = newer_solves(call);
+                note(holds, "an equation that holds lends the standing row");
+                let malformed = (refusal.number, refusal.which) == (6, 2);
+                note(malformed, "a malformed matrix lends the standing row");
+            }
         }
-        Kind::Read => note(done && answer[4] > 0, NOTABLE[13]),
+        Kind::Read => note(done && answer[4] > 0, "a file with attachments"),
         Kind::Print => {
             let text = text_of(answer);
             let has = |start: &str| text.lines().any(|line| line.starts_with(start));
             let (routes, table, refused) = (has("R "), has("F "), has("REFUSED 10"));
             let plain = call.buffers[0].get(7) == Some(&1);
-            note(text.starts_with("REFUSED"), NOTABLE[14]);
-            note(!routes && refused, NOTABLE[15]);
-            note(routes && !table && !has("REFUSED"), NOTABLE[16]);
-            note(routes && refused, NOTABLE[17]);
-            note(table && plain, NOTABLE[18]);
-            note(table && !plain, NOTABLE[19]);
+            note(text.starts_with("REFUSED"), "a bad file printed");
+            note(!routes && refused, "10 printed for the routes");
+            note(routes && !table && !has("REFUSED"), "routes printed alone");
+            note(routes && refused, "10 printed for the table");
+            note(table && plain, "a plain table printed");
+            note(table && !plain, "a table with t printed");
         }
     }
     names
@@ -211,4 +225,10 @@ impl fmt::Display for Coverage {
         }
         writeln!(f, "{}", listed(&self.seen, |name| name.to_string()))
     }
+}
+
+/// Whether the new matrix of a handover satisfies the equation, or how that call is refused.
+fn newer_solves(call: &Call) -> (Refusal, bool) {
+    let language = language_of(&call.language);
+    equation(&language, call.n, &call.buffers[0], &call.buffers[2])
 }
