@@ -1,10 +1,11 @@
 -- The printed text (01, "The printed case"), part after part.
 -- To be believed: all of it.
 use Prim.Native.Nat.{ℕ, _+_}
-use mathlib.Core.Bool.{cond}
+use mathlib.Core.Bool.{Bool, true, false, cond}
 use mathlib.Core.List.{List, [], _++_}
 use lib.Dec.{eqb}
 use lib.ListN.{length}
+use Rattle.refusals.specs.declared.Refusal.the-variants.{Bytes}
 use Rattle.refusals.specs.declared.Told.{Told}
 use Rattle.refusals.specs.Told.{told}
 use Rattle.weights.specs.declared.Language.{Language}
@@ -64,3 +65,8 @@ textRead s (Sound next h) =
 -- The text printed of a file of at most 65,536 bytes.
 unfoldable pub printed : List ℕ → List ℕ
 printed s = textRead s (fileRead s)
+
+-- what is printed of an input: of its first 65,536 bytes, or 1 0 0 where there are more
+abbrev pub printedInput : Bool → List ℕ → List ℕ
+printedInput true s = refusedLine (told (Bytes 0 0))
+printedInput false s = printed s

@@ -4,6 +4,7 @@ use super::work::work_routes;
 use super::work::work_table;
 use files::ReadAnswer;
 use files::reading::read;
+use refusals::Refusal;
 use refusals::tell;
 use texts::lines::put_refused_line;
 use weights::ENTRY_WORDS;
@@ -15,7 +16,7 @@ ghost use lib.ListN.{length, take};
 ghost use Rattle.weights.specs.Sizes.{places, weightWords, entryWords};
 ghost use Rattle.decimals.specs.Texts.{Put};
 ghost use Rattle.printing.specs.Work.{blank, blankTable};
-ghost use Rattle.printing.specs.Printed.{textOf, printed};
+ghost use Rattle.printing.specs.Printed.{textOf, printed, printedInput};
 
 // Puts the text of a network, worked out in two buffers of zeros.
 fn put_worked(
@@ -88,4 +89,16 @@ pub fn print_text(file: &[u8], out: &mut [u8]) -> usize
             return put_network(language, n as usize, m as usize, mode, &arcs, &mapping, out);
         }
     }
+}
+
+// Puts the text of what a program has read: up to 65,536 bytes, and whether the input has more.
+pub fn print_input(file: &[u8], more: bool, out: &mut [u8]) -> usize
+    requires { ⌜ 65536 ≤ length (now out) ⌝ }
+    ensures { λ e. ⌜ Put 57976 (now (out .entry)) 0 (printedInput more (now (file .entry))) (now (out .exit)) e ⌝ }
+{
+    if more {
+        let over = tell(Refusal::Bytes { which: 0, place: 0 });
+        return put_refused_line(over, 0, out);
+    }
+    print_text(file, out)
 }

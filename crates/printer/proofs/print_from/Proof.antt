@@ -7,7 +7,7 @@ use Rattle.printer.proofs.print_from.Tie as tie
 use Rattle.io.proofs.large_buffer.Reads as large-buffer-reads
 use Rattle.io.proofs.read_full.Reads as read-full-reads
 use Rattle.io.proofs.write_all.Reads as write-all-reads
-use Rattle.printing.proofs.text.print_text.Reads as print-text-reads
+use Rattle.printing.proofs.text.print_input.Reads as print-input-reads
 
 large-buffer-requires : tie.Need-large-buffer-requires
 large-buffer-requires c κs = search needs
@@ -24,41 +24,32 @@ slice-aggregate-read-full-2 c = search needs
 read-full-requires-2 : tie.Need-read-full-requires-2
 read-full-requires-2 c κs = search needs
 
-slice-aggregate-write-all : tie.Need-slice-aggregate-write-all
-slice-aggregate-write-all c = search needs
-
-write-all-requires : tie.Need-write-all-requires
-write-all-requires c κs = search needs
-
-returns : tie.Need-returns
-returns c = search needs
-
 large-buffer-requires-2 : tie.Need-large-buffer-requires-2
 large-buffer-requires-2 c κs = search needs
 
 array-share-prefix-file : tie.Need-array-share-prefix-file
 array-share-prefix-file c = search needs
 
-slice-aggregate-print-text : tie.Need-slice-aggregate-print-text
-slice-aggregate-print-text c = search needs
+slice-aggregate-print-input : tie.Need-slice-aggregate-print-input
+slice-aggregate-print-input c = search needs
 
-slice-aggregate-print-text-2 : tie.Need-slice-aggregate-print-text-2
-slice-aggregate-print-text-2 c = search needs
+slice-aggregate-print-input-2 : tie.Need-slice-aggregate-print-input-2
+slice-aggregate-print-input-2 c = search needs
 
-print-text-requires : tie.Need-print-text-requires
-print-text-requires c κs = search needs
+print-input-requires : tie.Need-print-input-requires
+print-input-requires c κs = search needs
 
 array-share-prefix-text : tie.Need-array-share-prefix-text
 array-share-prefix-text c = search needs
 
-slice-aggregate-write-all-2 : tie.Need-slice-aggregate-write-all-2
-slice-aggregate-write-all-2 c = sym (length-take-le _ _ (omega arith))
+slice-aggregate-write-all : tie.Need-slice-aggregate-write-all
+slice-aggregate-write-all c = sym (length-take-le _ _ (omega arith))
 
-write-all-requires-2 : tie.Need-write-all-requires-2
-write-all-requires-2 c κs = search needs
+write-all-requires : tie.Need-write-all-requires
+write-all-requires c κs = search needs
 
-returns-2 : tie.Need-returns-2
-returns-2 c = search needs
+returns : tie.Need-returns
+returns c = search needs
 
 pub print-from-spec : {M : Type 1} → statement M
 print-from-spec =
@@ -69,15 +60,12 @@ print-from-spec =
     read-full-requires
     slice-aggregate-read-full-2
     read-full-requires-2
-    slice-aggregate-write-all
-    write-all-requires
-    returns
     large-buffer-requires-2
     array-share-prefix-file
-    slice-aggregate-print-text
-    slice-aggregate-print-text-2
-    print-text-requires
+    slice-aggregate-print-input
+    slice-aggregate-print-input-2
+    print-input-requires
     array-share-prefix-text
-    slice-aggregate-write-all-2
-    write-all-requires-2
-    returns-2)
+    slice-aggregate-write-all
+    write-all-requires
+    returns)
