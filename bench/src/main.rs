@@ -1,7 +1,7 @@
 //! bench [--networks N] [--most RATIO] [--write FILE]: the proved library against ordinary Rust, in one run, interleaved.
 //!
 //! `equal` is the library's own source without its contracts, compiled as Rust: the same layouts, checks and loops, with Rust's
-//! own checks of bounds and sums. `plain` is the same work as someone would write it first. Each network is timed by all three,
+//! own checks of bounds. `plain` is the same work as someone would write it first. Each network is timed by all three,
 //! one after another; a number is the median over networks of the time of one unit, a ratio the median of the ratios.
 
 mod equal {

@@ -1,20 +1,13 @@
 //! door [--calls N] [--seed S]: makes generated calls through the exported functions, every buffer between canaries, and
 //! compares every answer and every word of every buffer with the independent implementation. Call k has the seed S + k.
 
-mod canaries;
-mod exports;
-mod outcomes;
-mod page;
-mod requests;
-
 use std::process::ExitCode;
 
 use compare::calls::Kind;
 use compare::coverage::Coverage;
 
-use exports::Lent;
-use page::Explained;
-use requests::Request;
+use door::page::Explained;
+use door::requests::Request;
 
 /// From this many calls on, each answer that a call can give must have been met.
 const ENOUGH: u64 = 50_000;
@@ -76,20 +69,7 @@ fn options(mut words: impl Iterator<Item = String>) -> Result<Options, String> {
 /// Makes the call of a seed and compares all that it answers and leaves.
 fn compare_call(seed: u64, met: &mut Met) -> Result<(), String> {
     let request = Request::new(seed);
-    let mut lent = Lent::new(&request);
-    let reply = exports::ask(&request, &mut lent);
-    if !lent.is_intact() {
-        return Err(format!("a canary is lost\n{}", request.call));
-    }
-    let answer = request.call.expected();
-    let expected = outcomes::expected(&request, &answer);
-    let found = outcomes::found(&request, reply, &lent);
-    if found != expected {
-        let call = &request.call;
-        return Err(format!(
-            "{call}independent: {expected:?}\nexported:    {found:?}"
-        ));
-    }
+    let (reply, answer) = door::compare(&request)?;
     if !met.explained.add(request.call.kind, reply) {
         return Err(format!("docs/REFUSALS.md does not have {reply:?}"));
     }

@@ -15,7 +15,8 @@ pub struct Explained {
     met: Lines,
 }
 
-fn call_of(kind: Kind) -> Call {
+/// The exported function that a call goes through.
+pub fn call_of(kind: Kind) -> Call {
     match kind {
         Kind::Laws => Call::Laws,
         Kind::Fresh => Call::Fresh,

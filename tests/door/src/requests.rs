@@ -10,6 +10,7 @@ pub const PROBLEM_WORDS: usize = 12;
 /// The numbers of a language.
 const NUMBERS: usize = 9;
 
+#[derive(Clone, Debug, PartialEq, Eq)]
 pub struct Request {
     /// The call, whose language and buffers are what the independent implementation is given.
     pub call: Call,
@@ -30,15 +31,23 @@ fn exported_call(seed: u64) -> Call {
 impl Request {
     /// The request of a seed.
     pub fn new(seed: u64) -> Request {
-        let mut call = exported_call(seed);
+        let call = exported_call(seed);
         let mut dice = Dice::new(!seed);
         let mut language = sixteen_bits(&call.language);
         if dice.percent(2) {
             language.resize(dice.pick(&[0, 1, 8, 10, 18]), 1);
-            // a slice of another length is taken as no component
-            call.language[0] = 0;
         }
         let told = told(&mut dice, call.kind);
+        Request::of(call, language, told)
+    }
+
+    /// The call with these numbers for its language.
+    pub fn of(mut call: Call, language: Vec<u16>, told: Vec<u32>) -> Request {
+        // a slice of another length is taken as no component
+        call.language = match <[u16; NUMBERS]>::try_from(language.as_slice()) {
+            Ok(numbers) => numbers.map(u32::from),
+            Err(_) => [0; NUMBERS],
+        };
         Request {
             call,
             language,
