@@ -98,7 +98,9 @@ struct tronglephu_answer {
 };
 
 /* Reads a problem file. Refuses 9 where arcs has fewer than 1,024 words (which 1), mapping fewer than 2,560 (3), problem fewer
-   than 12 (6), in this order and before the file is looked at; then the first fault in the order of the file. Written when done:
+   than 12 (6), in this order and before the file is looked at; then the first fault in the order of the file, in a record 1, 7, 8,
+   6. `place` is the offset of the field, tag, limit, byte or value at fault, and of the record's start for 1 and 8 in a record;
+   docs/REFUSALS.md says it number by number. Written when done:
    the first n x n x 4 words of arcs, the first n x m x 5 of mapping, and the first 12 of problem: n, m, mode (0 exactly when m
    is 0), and the nine numbers of the language, its unused places dist with limit 0. */
 struct tronglephu_answer tronglephu_read(const uint8_t *file, size_t file_count, uint32_t *arcs, size_t arcs_count,

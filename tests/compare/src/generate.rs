@@ -199,9 +199,12 @@ pub fn file(seed: u64) -> Vec<u8> {
     }
 }
 
-/// One file after the other, each cut at every offset in turn.
+/// One small file after the other, each cut at every offset in turn.
 fn cut_file(turn: u64, recounted: bool) -> Vec<u8> {
-    let mut file = any_sound_file(&mut Dice::new(turn / CUTS));
+    let seeds = (0..).map(|attempt: u64| turn / CUTS + (attempt << 32));
+    let mut files = seeds.map(|seed| any_sound_file(&mut Dice::new(seed)));
+    let small = files.find(|file| file.len() < CUTS as usize);
+    let mut file = small.expect("some file is small");
     file.truncate((turn % CUTS) as usize);
     if recounted && file.len() >= 4 {
         let count = (file.len() - 4) as u32;
