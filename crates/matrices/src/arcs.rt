@@ -29,7 +29,7 @@ fn is_unused(c: Component) -> bool
     }
 }
 
-// The language has one component.
+// Every place after the first is unused, or may as well be: its component is class 0.
 pub fn is_single(p: Places) -> bool
     ensures { λ b. ⌜ (b ≡ true → Single p) ⌝ }
 {

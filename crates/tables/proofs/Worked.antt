@@ -97,7 +97,7 @@ hot-onward : onward (language wide) (modeOf Hot wide) 3 line ends (forwarded (la
 unfolding onward forwarded bestOf pick best bestAmong
 hot-onward = refl
 
--- Hot needs law C: D and U hold and C is broken, R is the best matrix and satisfies the routing equation, and F does not satisfy F = (A applied to F) best M.
+-- Hot needs law C: D and U hold and C is broken, R satisfies the routing equation, and F does not satisfy F = (A applied to F) best M.
 pub record HotBreaks (cs : List Component) (n m : ℕ) (A R : Matrix (language cs)) (M : ℕ → ℕ → Entry) : Type 0 where
   pub law-D : LawD cs
   pub law-U : LawU cs
