@@ -3,7 +3,7 @@ use Prim.Native.Nat.{ℕ, zero, suc, _+_, _*_, _-_, _≤_, _<_}
 use mathlib.Core.Path.{_≡_, refl, sym, ap, ap₂, _∙_, subst}
 use mathlib.Core.Bool.{Bool, true, false, cond}
 use mathlib.Core.List.{List, [], _∷_, _++_}
-use native.Mathlib.Nat.{suc-mul}
+use native.Mathlib.Nat.{zero-add, suc-add, suc-mul}
 use native.Mathlib.Numerals.{add-one}
 use native.Mathlib.Omega.{arith}
 use borrow.Author.Tests.{eqb-true, eqb-false, ne-eqb, eq-eqb}
@@ -215,6 +215,12 @@ module _ (p : Places) (n : ℕ) (a : List ℕ) (g : GivenArcs (placesOf p) n a) 
         now-is =
             q ∙ ap₂ (λ (x y : List ℕ). x ++ y) (row-cong n _ _ one)
             (ap (drop (n * weightWords)) (t .holds) ∙ drop-at (rowWords n (column (swept p n a k) j)) (drop (n * weightWords) s₀) (n * weightWords) (length-row n _))
+
+    -- a pass that changed nothing may be counted any number of times
+    pub settling-still : (k : ℕ) (s : List ℕ) → Settling p n a j s₀ k s → s ≡ rowWords n (passed (placesOf p) n (matrixIn places n a) j n (rowIn places s)) ++ drop (n * weightWords) s
+        → (m : ℕ) → Settling p n a j s₀ (m + k) s
+    settling-still k s t q zero = rw zero-add t
+    settling-still k s t q (suc m) = rw suc-add (settling-more (m + k) s s (settling-still k s t q m) q)
 
   -- after n - 1 passes the column holds the best weights
   pub settling-all : (e s₀ : List ℕ) (k : ℕ) (s : List ℕ) → Settling p n a j s₀ k s → n ≤ suc k → s₀ ≡ rowWords n (fresh (language (placesOf p)) j) ++ drop (n * weightWords) e

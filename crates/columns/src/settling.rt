@@ -1,17 +1,19 @@
-// Settle steps: column j set to the best weights, which n - 1 passes over the fresh column make.
+// Settle steps: column j set to the best weights, which at most n - 1 passes over the fresh column make.
 use numbers::Node;
 use weights::Places;
 use weights::WEIGHT_WORDS;
 use weights::Weight;
 ghost use mathlib.Core.Path.{_≡_};
+ghost use mathlib.Core.Bool.{false};
 ghost use mathlib.Core.List.{_++_};
 ghost use Prim.Native.Nat.{_+_, _*_, _≤_, _<_};
-ghost use lib.ListN.{length, drop};
+ghost use lib.ListN.{length, take, drop};
 ghost use Rattle.algebra.specs.Best.{best};
 ghost use Rattle.algebra.specs.Step.{settle, step};
 ghost use Rattle.weights.specs.Sizes.{places, weightWords, arcSum, matrixSum};
 ghost use Rattle.weights.specs.Weights.{join, betterOf, language};
 ghost use Rattle.weights.specs.Languages.{placesOf, weightOf, AtMost};
+ghost use Rattle.weights.specs.Words.{words};
 ghost use Rattle.matrices.specs.Buffers.{rowWords, matrixWords, cell, rowIn, matrixIn, Square};
 ghost use Rattle.matrices.specs.Steps.{GivenArcs, Given};
 ghost use Rattle.columns.specs.Columns.{column, renewed, passed, setColumn, Held};
@@ -31,6 +33,9 @@ fn take_entry(p: Places, w: Weight, x: Weight, col: &[u32], at: usize) -> Weight
         return w;
     };
     let y = weights::words::weight_at(col, at);
+    if weights::gaining::loses(p, w, x, y) {
+        return w;
+    }
     let z = weights::joining::join(p, x, y);
     weights::comparing::better_of(p, w, z)
 }
@@ -51,20 +56,39 @@ fn renew(p: Places, n: usize, a: &[u32], i: usize, j: usize, col: &[u32]) -> Wei
     w
 }
 
-// One pass over the rows of a column.
-fn pass(p: Places, n: usize, a: &[u32], j: usize, col: &mut [u32])
+// Puts w at `at`, and says whether that changed a word.
+fn put(col: &mut [u32], at: usize, w: Weight) -> bool
+    requires { ⌜ at + weightWords ≤ length (now col) ⌝ }
+    ensures { λ changed. ⌜ (changed ≡ false → now (col .exit) ≡ now (col .entry)) ⌝ }
+    ensures { λ _. ⌜ now (col .exit) ≡ take at (now (col .entry)) ++ (words (weightOf w) ++ drop weightWords (drop at (now (col .entry)))) ⌝ }
+{
+    let old = weights::words::weight_at(col, at);
+    if weights::comparing::same(w, old) {
+        return false;
+    }
+    weights::words::write_at(col, at, w);
+    true
+}
+
+// One pass over the rows of a column; it says whether that changed a word.
+fn pass(p: Places, n: usize, a: &[u32], j: usize, col: &mut [u32]) -> bool
     requires { ⌜ GivenArcs (placesOf p) n (now a) × Held matrixSum (placesOf p) n (now col) ⌝ }
+    ensures { λ changed. ⌜ (changed ≡ false → now (col .exit) ≡ now (col .entry)) ⌝ }
     ensures { λ _. ⌜ now (col .exit) ≡ rowWords n (passed (placesOf p) n (matrixIn places n (now (a .entry))) j n (rowIn places (now (col .entry)))) ++ drop (n * weightWords) (now (col .entry)) ⌝ }
 {
+    let mut changed = false;
     let mut i: usize = 0;
     while i < n {
         let w = renew(p, n, a, i, j, col);
-        weights::words::write_at(col, i * WEIGHT_WORDS, w);
+        if put(col, i * WEIGHT_WORDS, w) {
+            changed = true;
+        }
         i += 1;
     }
+    changed
 }
 
-// Writes the best weights with target j over the first n entries of col.
+// Writes the best weights with target j over the first n entries of col; a pass that changes nothing is the last.
 pub fn settle_column(p: Places, n: usize, a: &[u32], j: usize, col: &mut [u32])
     requires { ⌜ GivenArcs (placesOf p) n (now a) × (n * weightWords ≤ length (now col)) ⌝ }
     ensures { λ _. ⌜ now (col .exit) ≡ rowWords n (column (best (language (placesOf p)) n (matrixIn places n (now (a .entry)))) j) ++ drop (n * weightWords) (now (col .entry)) ⌝ }
@@ -72,7 +96,9 @@ pub fn settle_column(p: Places, n: usize, a: &[u32], j: usize, col: &mut [u32])
     matrices::fresh::fresh_row(p, n, j, col);
     let mut t: usize = 1;
     while t < n {
-        pass(p, n, a, j, col);
+        if !pass(p, n, a, j, col) {
+            return;
+        }
         t += 1;
     }
 }

@@ -27,7 +27,8 @@ use Rattle.weights.specs.Languages.{componentsOf, countCheck, limitCheck, padde
 use Rattle.weights.proofs.Checking.{few, check-sound, placed-is}
 use Rattle.weights.proofs.Padding.{padWeight}
 use Rattle.weights.proofs.Readings.{well-read}
-use Rattle.weights.proofs.Sums.{sumAt, well-sum}
+use Rattle.weights.specs.Sums.{sumAt}
+use Rattle.weights.proofs.Sums.{well-sum}
 use Rattle.matrices.specs.Buffers.{cell, wordsAt, entryPlace, matrixIn, Formed}
 use Rattle.matrices.specs.Steps.{solves}
 use Rattle.matrices.proofs.Every.{solves-exactly}

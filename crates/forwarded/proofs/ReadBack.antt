@@ -13,7 +13,8 @@ use Rattle.weights.specs.Sizes.{weightWords, ones}
 use Rattle.weights.specs.Weights.{none, route, ValidValues}
 use Rattle.weights.specs.Words.{filled, allAre, fits, good, malformed}
 use Rattle.weights.proofs.Readings.{values}
-use Rattle.weights.proofs.Sums.{sumOf, sumAt, well-sum}
+use Rattle.weights.specs.Sums.{sumOf, sumAt}
+use Rattle.weights.proofs.Sums.{well-sum}
 use Rattle.tables.specs.declared.Mode.{Mode}
 use Rattle.tables.specs.declared.Mode.the-variants.{Plain, Hot, Cold}
 use Rattle.tables.specs.Entries.{Entry, empty, mapped, largestT, ValidT, ValidEntry}

@@ -23,7 +23,8 @@ use Rattle.weights.specs.Languages.{SmallLimits}
 use Rattle.weights.specs.Words.{words, reading, isGood, decoded}
 use Rattle.weights.proofs.Languages.{lawful}
 use Rattle.weights.proofs.Readings.{NotOnes, reads-back, SumsUpTo, WeightUpTo, Written, reads-words, well-read}
-use Rattle.weights.proofs.Sums.{sumOf, sumAt, sum-size, well-sum}
+use Rattle.weights.specs.Sums.{sumOf, sumAt}
+use Rattle.weights.proofs.Sums.{sum-size, well-sum}
 use Rattle.matrices.specs.Buffers.{matrixWords, cell, wordsAt, entryPlace, matrixIn, Square, Formed}
 use Rattle.matrices.specs.Steps.{Matrix, sumFits, sumsFit, weightFits, every, rowFits}
 use Rattle.matrices.proofs.Entries.{matrix-four, matrix-cong, length-matrix}

@@ -1,5 +1,5 @@
 -- The entries of a buffer and the words of its entries: a buffer is the words of its entries, and a weight that is written is read back.
-use mathlib.Core.Path.{_≡_, refl, sym, ap, ap₂, _∙_}
+use mathlib.Core.Path.{_≡_, refl, sym, ap, ap₂, _∙_, subst}
 use mathlib.Core.List.{List, [], _∷_, _++_, append-assoc, append-nil}
 use mathlib.Core.Bool.{Bool, true, false, cond, _&&_}
 use Prim.Native.Nat.{ℕ, zero, suc, _+_, _*_, _≤_, _<_}
@@ -12,8 +12,10 @@ use lib.Seq.{sets, sets-eq, drop-drop, take-all, length-take-le, drop-cons, set-
 use Rattle.weights.specs.declared.Component.{Component}
 use Rattle.weights.specs.Sizes.{places, weightWords, ones}
 use Rattle.weights.specs.Weights.{Weight, none, route, better, betterOf, join}
+use Rattle.weights.specs.Gains.{loses}
 use Rattle.weights.specs.Words.{filled, words, allAre, decoded}
 use Rattle.weights.proofs.Ordering.{betterOf-first, betterOf-second}
+use Rattle.weights.proofs.Gains.{loses-stays}
 use Rattle.matrices.specs.Buffers.{rowWords, matrixWords, entryPlace, wordsAt, cell, rowIn, matrixIn, Square}
 use Rattle.matrices.specs.Steps.{Matrix}
 use Rattle.matrices.proofs.Blocks.{blocks-take, blocks-cong, blocks-put, blocks-at, front-at, length-blocks, place-room, block-room, square-small}
@@ -171,6 +173,13 @@ relax-put cs s p z old j h e f t =
 pub relax-keep : (cs : List Component) (s : List ℕ) (p : ℕ) (z old j : Weight) → p + weightWords ≤ length s → z ≡ j → old ≡ decoded places (wordsAt s p)
     → better cs z old ≡ false → s ≡ take p s ++ (words (betterOf cs (cell places s p) j) ++ drop weightWords (drop p s))
 relax-keep cs s p z old j h e f t = keep-is s p (betterOf cs (cell places s p) j) h (betterOf-first cs (cell places s p) j (ap₂ (better cs) (sym e) (cell-is s p ∙ sym f) ∙ t))
+
+-- nothing is written where the join loses by its first value
+pub relax-lose : (cs : List Component) (s : List ℕ) (p : ℕ) (old x y : Weight) → p + weightWords ≤ length s → old ≡ decoded places (wordsAt s p)
+    → loses cs old x y ≡ true → s ≡ take p s ++ (words (betterOf cs (cell places s p) (join cs x y)) ++ drop weightWords (drop p s))
+relax-lose cs s p old x y h f t =
+    let e : old ≡ cell places s p = f ∙ sym (cell-is s p) in
+    keep-is s p (betterOf cs (cell places s p) (join cs x y)) h (sym (loses-stays cs (cell places s p) x y (subst (λ (w : Weight). loses cs w x y ≡ true) e t)))
 
 -- what is written, where what was read is as it was
 pub fold-one : (cs : List Component) (x y y′ : Weight) (s s₀ : List ℕ) (p : ℕ) → cell places s p ≡ cell places s₀ p → y ≡ y′

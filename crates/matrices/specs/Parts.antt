@@ -51,7 +51,7 @@ firstOnly (route []) = route []
 firstOnly (route (x ∷ xs)) = route (x ∷ 0 ∷ 0 ∷ 0 ∷ [])
 
 -- x joined y has no value but the first
-pub record Lone (cs : List Component) (x y : Weight) : Type 0 where
+pub record FirstAlone (cs : List Component) (x y : Weight) : Type 0 where
   pub alone : join cs x y ≡ firstOnly (join cs x y)
 
 -- every place after the first is unused

@@ -1,4 +1,5 @@
-// One arc taken into a whole row; in a language of one component only the first values are joined.
+// One arc taken into a whole row. In a language of one component only the first values are joined; in others a join that loses by
+// its first value is not finished.
 use weights::Component;
 use weights::ONES;
 use weights::Places;
@@ -13,10 +14,11 @@ ghost use Rattle.weights.specs.declared.Component.the-variants.{Class};
 ghost use Rattle.weights.specs.Sizes.{places, weightWords, arcSum, matrixSum};
 ghost use Rattle.weights.specs.Weights.{join, betterOf};
 ghost use Rattle.weights.specs.Languages.{placesOf, weightOf, AtMost};
+ghost use Rattle.weights.specs.Gains.{loses};
 ghost use Rattle.weights.specs.Words.{words};
 ghost use Rattle.matrices.specs.Buffers.{rowWords, cell, rowIn, matrixIn, Square};
 ghost use Rattle.matrices.specs.Steps.{Given};
-ghost use Rattle.matrices.specs.Parts.{folded, Lone, Single};
+ghost use Rattle.matrices.specs.Parts.{folded, FirstAlone, Single};
 
 fn is_unused(c: Component) -> bool
     ensures { λ b. ⌜ (b ≡ true → c ≡ Class 0) ⌝ }
@@ -47,7 +49,7 @@ pub fn is_single(p: Places) -> bool
 
 // x joined y in a language of one component.
 fn join_first(p: Places, x: Weight, y: Weight) -> Weight
-    requires { ⌜ AtMost arcSum (weightOf x) × AtMost matrixSum (weightOf y) × Lone (placesOf p) (weightOf x) (weightOf y) ⌝ }
+    requires { ⌜ AtMost arcSum (weightOf x) × AtMost matrixSum (weightOf y) × FirstAlone (placesOf p) (weightOf x) (weightOf y) ⌝ }
     ensures { λ w. ⌜ weightOf w ≡ join (placesOf p) (weightOf x) (weightOf y) ⌝ }
 {
     let Weight::Route {
@@ -80,7 +82,7 @@ fn join_first(p: Places, x: Weight, y: Weight) -> Weight
 
 // x joined y, the short way where the language is single.
 fn join_arc(p: Places, single: bool, x: Weight, y: Weight) -> Weight
-    requires { ⌜ AtMost arcSum (weightOf x) × AtMost matrixSum (weightOf y) × (single ≡ true → Lone (placesOf p) (weightOf x) (weightOf y)) ⌝ }
+    requires { ⌜ AtMost arcSum (weightOf x) × AtMost matrixSum (weightOf y) × (single ≡ true → FirstAlone (placesOf p) (weightOf x) (weightOf y)) ⌝ }
     ensures { λ w. ⌜ weightOf w ≡ join (placesOf p) (weightOf x) (weightOf y) ⌝ }
 {
     if single {
@@ -89,13 +91,27 @@ fn join_arc(p: Places, single: bool, x: Weight, y: Weight) -> Weight
     weights::joining::join(p, x, y)
 }
 
+// x joined y is worse than w by its first value; where the language is single that is no shorter than the join, and not asked.
+fn is_lost(p: Places, single: bool, w: Weight, x: Weight, y: Weight) -> bool
+    requires { ⌜ AtMost arcSum (weightOf x) × AtMost matrixSum (weightOf y) ⌝ }
+    ensures { λ b. ⌜ (b ≡ true → loses (placesOf p) (weightOf w) (weightOf x) (weightOf y) ≡ true) ⌝ }
+{
+    if single {
+        return false;
+    }
+    weights::gaining::loses(p, w, x, y)
+}
+
 // The weight at `at` becomes the better of itself and x joined y.
 fn relax_at(p: Places, single: bool, x: Weight, y: Weight, row: &mut [u32], at: usize)
-    requires { ⌜ (at + weightWords ≤ length (now row)) × AtMost arcSum (weightOf x) × AtMost matrixSum (weightOf y) × (single ≡ true → Lone (placesOf p) (weightOf x) (weightOf y)) ⌝ }
+    requires { ⌜ (at + weightWords ≤ length (now row)) × AtMost arcSum (weightOf x) × AtMost matrixSum (weightOf y) × (single ≡ true → FirstAlone (placesOf p) (weightOf x) (weightOf y)) ⌝ }
     ensures { λ _. ⌜ now (row .exit) ≡ take at (now (row .entry)) ++ (words (betterOf (placesOf p) (cell places (now (row .entry)) at) (join (placesOf p) (weightOf x) (weightOf y))) ++ drop weightWords (drop at (now (row .entry)))) ⌝ }
 {
-    let z = join_arc(p, single, x, y);
     let old = weights::words::weight_at(row, at);
+    if is_lost(p, single, old, x, y) {
+        return;
+    }
+    let z = join_arc(p, single, x, y);
     if weights::comparing::better(p, z, old) {
         weights::words::write_at(row, at, z);
     }
@@ -105,7 +121,7 @@ fn relax_at(p: Places, single: bool, x: Weight, y: Weight, row: &mut [u32], at: 
 fn fold_arc(p: Places, single: bool, x: Weight, r: &[u32], n: usize, k: usize, row: &mut [u32])
     requires { ⌜ Square n (now r) × (k < n) × (n * weightWords ≤ length (now row)) × AtMost arcSum (weightOf x) ⌝ }
     requires { ⌜ ((j : ℕ) → j < n → AtMost matrixSum (matrixIn places n (now r) k j)) ⌝ }
-    requires { ⌜ (single ≡ true → (j : ℕ) → j < n → Lone (placesOf p) (weightOf x) (matrixIn places n (now r) k j)) ⌝ }
+    requires { ⌜ (single ≡ true → (j : ℕ) → j < n → FirstAlone (placesOf p) (weightOf x) (matrixIn places n (now r) k j)) ⌝ }
     ensures { λ _. ⌜ now (row .exit) ≡ rowWords n (folded (placesOf p) (weightOf x) (matrixIn places n (now (r .entry)) k) (rowIn places (now (row .entry)))) ++ drop (n * weightWords) (now (row .entry)) ⌝ }
 {
     let from = k * (n * WEIGHT_WORDS);

@@ -11,7 +11,8 @@ use Rattle.algebra.proofs.Bound.{Size}
 use Rattle.weights.specs.declared.Component.{Component}
 use Rattle.weights.specs.Sizes.{arcSum, matrixSum, tableSum}
 use Rattle.weights.specs.Weights.{Weight, none, route, join, language}
-use Rattle.weights.proofs.Sums.{sumAt, sum-size}
+use Rattle.weights.specs.Sums.{sumAt}
+use Rattle.weights.proofs.Sums.{sum-size}
 use Rattle.tables.specs.declared.Mode.{Mode}
 use Rattle.tables.specs.Entries.{Entry, empty, mapped, withT, applied, modeOf}
 use Rattle.tables.specs.Parts.{weightIn}

@@ -7,6 +7,7 @@ pub mod EntryReadings
 pub mod Choosing
 pub mod Rooms
 pub mod Summing
+pub mod Gains
 pub mod TableBlocks
 pub mod MalformedEntries
 pub mod Forwarded

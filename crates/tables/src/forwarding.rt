@@ -4,6 +4,7 @@ use super::Mode;
 use super::applying;
 use super::comparing;
 use super::entries;
+use super::gaining;
 use numbers::Destination;
 use numbers::Node;
 use weights::ENTRY_WORDS;
@@ -48,6 +49,9 @@ fn take_node(
         return e;
     };
     let y = entries::look_up(s, m, k, d);
+    if gaining::loses(p, mode, e, x, y) {
+        return e;
+    }
     let z = applying::apply(p, x, y);
     comparing::better_of(p, mode, e, z)
 }

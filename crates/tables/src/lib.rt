@@ -4,6 +4,7 @@ pub mod checks;
 pub mod comparing;
 pub mod entries;
 pub mod forwarding;
+pub mod gaining;
 pub mod modes;
 
 // The largest t of a mode other than plain.

@@ -1,7 +1,7 @@
 -- Comparing by the first difference, and what each of the three answers says of "better" and "same".
 use Prim.Native.Nat.{ℕ}
 use mathlib.Core.Path.{_≡_, refl, sym, ap, ap₂, subst, _∙_}
-use mathlib.Core.Bool.{Bool, true, false, cond, _&&_}
+use mathlib.Core.Bool.{Bool, true, false, not, cond, _&&_}
 use mathlib.Core.List.{List, [], _∷_}
 use mathlib.Core.Logic.{_↔_}
 use native.Mathlib.Omega.{arith}
@@ -11,7 +11,7 @@ use Rattle.weights.specs.declared.Component.{Component}
 use Rattle.weights.specs.declared.Comparison.{Comparison}
 use Rattle.weights.specs.declared.Comparison.the-variants.{Better, Equal, Worse}
 use Rattle.weights.specs.Weights.{Weight, none, route, Valid, betterValue, betterValues, better}
-use Rattle.weights.specs.Languages.{compared, same, sameValues}
+use Rattle.weights.specs.Languages.{isRoute, compared, same, sameValues}
 use Rattle.weights.proofs.Ordering.{Three, ahead, level, behind, three1, lt-better, lt-worse, clash, irrefl, asym, antisym}
 
 -- values that differ decide
@@ -22,6 +22,20 @@ differs c {x} {y} f e = e ∙ go (three1 c x y)
     go (ahead p) = rw (lt-better c x y p)
     go (level q) = absurd (f q)
     go (behind p) = rw (lt-worse c y x p, lt-better c y x p)
+
+-- ---- no route against a weight
+
+pub none-worse : (cs : List Component) (y : Weight) → isRoute y ≡ true → Worse ≡ compared cs none y
+none-worse cs none e = clash false e refl
+none-worse cs (route ys) e = refl
+
+pub none-equal : (cs : List Component) (y : Weight) → isRoute y ≡ false → Equal ≡ compared cs none y
+none-equal cs none e = refl
+none-equal cs (route ys) e = clash true refl e
+
+pub none-same : (y : Weight) → not (isRoute y) ≡ same none y
+none-same none = refl
+none-same (route ys) = refl
 
 -- ---- what the answers say
 

@@ -5,6 +5,7 @@ pub mod Buffers
 pub mod Padding
 pub mod Checking
 pub mod Compared
+pub mod Gains
 pub mod Worked
 pub mod Unique
 pub mod Readings

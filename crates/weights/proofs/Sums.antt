@@ -11,27 +11,10 @@ use Rattle.algebra.proofs.Bound.{Size}
 use Rattle.weights.specs.declared.Component.{Component}
 use Rattle.weights.specs.declared.Component.the-variants.{Dist, Width, Class, Gain}
 use Rattle.weights.specs.Weights.{Weight, none, route, joinValues, unitValues, join, language}
+use Rattle.weights.specs.Sums.{sumHere, sumOf, sumAt}
 use Rattle.weights.specs.Words.{inRange, fits, decoded}
 use Rattle.weights.proofs.Ordering.{clash}
 use Rattle.weights.proofs.Readings.{Well, noRoute, values, both}
-
--- the value of a component that is a sum; 0 for the others
-abbrev pub sumHere : Component → ℕ → ℕ
-sumHere Dist x = x
-sumHere (Width w) x = 0
-sumHere (Class k) x = 0
-sumHere Gain x = x
-
--- the sum at component c; 0 where there is none
-abbrev pub sumOf : List Component → ℕ → List ℕ → ℕ
-sumOf [] c xs = 0
-sumOf (k ∷ ks) c [] = 0
-sumOf (k ∷ ks) zero (x ∷ xs) = sumHere k x
-sumOf (k ∷ ks) (suc c) (x ∷ xs) = sumOf ks c xs
-
-abbrev pub sumAt : List Component → ℕ → Weight → ℕ
-sumAt cs c none = 0
-sumAt cs c (route xs) = sumOf cs c xs
 
 sum-unit : (cs : List Component) (c : ℕ) → sumOf cs c (unitValues cs) ≡ 0
 sum-unit [] c = refl

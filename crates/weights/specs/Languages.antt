@@ -87,6 +87,11 @@ AtMost n (route xs) = AllAtMost n xs
 
 -- ---- comparing
 
+-- the weight is a route: a test
+abbrev pub isRoute : Weight → Bool
+isRoute none = false
+isRoute (route xs) = true
+
 -- better, worse, or neither
 abbrev pub compared : List Component → Weight → Weight → Comparison
 compared cs x y = cond (better cs x y) Better (cond (better cs y x) Worse Equal)

@@ -2,4 +2,6 @@ pub mod Sizes
 pub mod Weights
 pub mod Laws
 pub mod Languages
+pub mod Gains
 pub mod Words
+pub mod Sums

@@ -7,7 +7,7 @@ ghost use mathlib.Core.Path.{_≡_};
 ghost use mathlib.Core.Bool.{cond, false};
 ghost use Rattle.weights.specs.declared.Comparison.the-variants.{Better, Worse};
 ghost use Rattle.weights.specs.Weights.{betterValue, better, betterOf};
-ghost use Rattle.weights.specs.Languages.{placesOf, weightOf, compared, same};
+ghost use Rattle.weights.specs.Languages.{placesOf, weightOf, isRoute, compared, same};
 
 fn verdict(better: bool) -> Comparison
     ensures { λ r. ⌜ r ≡ cond better Better Worse ⌝ }
@@ -18,7 +18,7 @@ fn verdict(better: bool) -> Comparison
     Comparison::Worse
 }
 
-fn better_value(c: Component, x: u32, y: u32) -> bool
+pub fn better_value(c: Component, x: u32, y: u32) -> bool
     ensures { λ r. ⌜ r ≡ betterValue c x y ⌝ }
 {
     match c {
@@ -37,6 +37,21 @@ fn compare_value(c: Component, x: u32, y: u32) -> Comparison
     verdict(better)
 }
 
+fn is_route(w: Weight) -> bool
+    ensures { λ b. ⌜ b ≡ isRoute (weightOf w) ⌝ }
+{
+    let Weight::Route {
+        first: _,
+        second: _,
+        third: _,
+        fourth: _,
+    } = w
+    else {
+        return false;
+    };
+    true
+}
+
 // Better, equal or worse.
 pub fn compare(p: Places, x: Weight, y: Weight) -> Comparison
     ensures { λ r. ⌜ r ≡ compared (placesOf p) (weightOf x) (weightOf y) ⌝ }
@@ -48,16 +63,10 @@ pub fn compare(p: Places, x: Weight, y: Weight) -> Comparison
         fourth: d,
     } = x
     else {
-        let Weight::Route {
-            first: _,
-            second: _,
-            third: _,
-            fourth: _,
-        } = y
-        else {
-            return Comparison::Equal;
-        };
-        return Comparison::Worse;
+        if is_route(y) {
+            return Comparison::Worse;
+        }
+        return Comparison::Equal;
     };
     let Weight::Route {
         first: e,
@@ -120,16 +129,8 @@ pub fn same(x: Weight, y: Weight) -> bool
         fourth: d,
     } = x
     else {
-        let Weight::Route {
-            first: _,
-            second: _,
-            third: _,
-            fourth: _,
-        } = y
-        else {
-            return true;
-        };
-        return false;
+        let other = is_route(y);
+        return !other;
     };
     let Weight::Route {
         first: e,

@@ -1,5 +1,6 @@
 // Components, languages and weights, as calls are given them.
 pub mod comparing;
+pub mod gaining;
 pub mod joining;
 pub mod placing;
 pub mod words;
@@ -18,12 +19,10 @@ pub const PRODUCT_TAGS: usize = 3;
 // The word of which no route is made.
 pub const ONES: u32 = 4294967295;
 
-// The largest sums of an arc, of a matrix and of a forwarding table.
+// The largest sums of an arc and of a matrix.
 pub const ARC_SUM: u32 = 65535;
 
 pub const MATRIX_SUM: u32 = 983025;
-
-pub const TABLE_SUM: u32 = 1048560;
 
 // A component is one of four kinds, two of which carry a limit.
 pub enum Component {

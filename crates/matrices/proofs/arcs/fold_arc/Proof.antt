@@ -9,7 +9,7 @@ use Rattle.weights.specs.Sizes.{places, weightWords, matrixSum}
 use Rattle.weights.specs.Languages.{placesOf, weightOf, AtMost}
 use Rattle.weights.specs.Words.{words}
 use Rattle.matrices.specs.Buffers.{entryPlace, rowIn, matrixIn}
-use Rattle.matrices.specs.Parts.{folded, Lone}
+use Rattle.matrices.specs.Parts.{folded, FirstAlone}
 use Rattle.matrices.proofs.Blocks.{place-room, Filled, filled-none, filled-put, filled-is, filled-rest}
 use Rattle.matrices.proofs.Entries.{row-room, length-words, cell-is, cell-drop, fold-one}
 use borrow.Author.Needs.{needs}
@@ -61,7 +61,7 @@ relax-at-requires c κs =
       omega arith,
       s .pre .0 .3,
       subst (AtMost matrixSum) e (s .pre .1 .0 (l .loop .j) hj),
-      λ t. subst (Lone (placesOf (s .args .p)) (weightOf (s .args .x))) e (s .pre .1 .1 t (l .loop .j) hj),
+      λ t. subst (FirstAlone (placesOf (s .args .p)) (weightOf (s .args .x))) e (s .pre .1 .1 t (l .loop .j) hj),
     )
 
 add-j : tie.Need-add-j Inv-loop μ-loop

@@ -5,11 +5,11 @@ use lib.ListN.{length}
 use Rattle.weights.specs.Sizes.{places, weightWords, arcSum, matrixSum}
 use Rattle.weights.specs.Languages.{placesOf, AtMost}
 use Rattle.matrices.specs.Buffers.{entryPlace, matrixIn}
-use Rattle.matrices.specs.Parts.{Lone}
+use Rattle.matrices.specs.Parts.{FirstAlone}
 use Rattle.matrices.proofs.Blocks.{place-room}
 use Rattle.matrices.proofs.Entries.{row-room, cell-is}
 use Rattle.matrices.proofs.Bounds.{formed-valid, formed-most, ones-none}
-use Rattle.matrices.proofs.Alone.{lone-valid}
+use Rattle.matrices.proofs.Alone.{first-alone}
 use Rattle.matrices.proofs.Rounds.{fold-none}
 use borrow.Author.Needs.{needs}
 use Rattle.matrices.proofs.arcs.take_arc.Statement.{statement}
@@ -59,8 +59,8 @@ fold-arc-requires c κs =
       (g .routes .square, s .pre .2, s .pre .3, subst (AtMost arcSum) e (formed-most arcSum (s .args .p) (s .args .n) (s .args .a .now) (omega arith) (g .limits) (g .arcs) (s .args .i) (s .args .k) (s .pre .1) (s .pre .2))),
       (
         λ j hj. formed-most matrixSum (s .args .p) (s .args .n) (s .args .r .now) (omega arith) (g .limits) (g .routes) (s .args .k) j (s .pre .2) hj,
-        λ t j hj. subst (λ w. Lone (placesOf (s .args .p)) w (R (s .args .k) j)) e
-            (lone-valid (s .args .p) (s .pre .4 t) _ (R (s .args .k) j)
+        λ t j hj. subst (λ w. FirstAlone (placesOf (s .args .p)) w (R (s .args .k) j)) e
+            (first-alone (s .args .p) (s .pre .4 t) _ (R (s .args .k) j)
             (formed-valid arcSum (s .args .p) (s .args .n) (s .args .a .now) (g .arcs) (s .args .i) (s .args .k) (s .pre .1) (s .pre .2))
             (formed-valid matrixSum (s .args .p) (s .args .n) (s .args .r .now) (g .routes) (s .args .k) j (s .pre .2) hj)),
       ),

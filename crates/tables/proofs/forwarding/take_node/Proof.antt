@@ -1,9 +1,10 @@
-use mathlib.Core.Path.{_∙_}
+use mathlib.Core.Path.{sym, _∙_}
 use Rattle.weights.specs.Sizes.{places}
-use Rattle.weights.specs.Languages.{placesOf}
+use Rattle.weights.specs.Languages.{placesOf, weightOf}
 use Rattle.tables.specs.Tables.{tableIn}
 use Rattle.tables.specs.Entries.{entryOf}
 use Rattle.tables.proofs.Summing.{left-out}
+use Rattle.tables.proofs.Gains.{loses-keeps}
 use borrow.Author.Needs.{needs}
 use Rattle.tables.proofs.forwarding.take_node.Statement.{statement}
 use Rattle.tables.proofs.forwarding.take_node.Tie as tie
@@ -22,16 +23,26 @@ returns c =
 look-up-requires : tie.Need-look-up-requires
 look-up-requires c κs = search needs
 
-apply-requires : tie.Need-apply-requires
-apply-requires c κs =
+loses-requires : tie.Need-loses-requires
+loses-requires c κs =
     let s = c .before .before .before .before in
     (s .pre .1, rw (c .look-up .ensures) (s .pre .2))
+
+returns-2 : tie.Need-returns-2
+returns-2 c =
+    let a = c .before .before .before .before .before .before .args in
+    rw (sym (c .before .before .look-up .ensures)) (loses-keeps (a .mode) (placesOf (a .p)) (entryOf (a .e)) (weightOf (a .x)) _ (sym (c .before .loses .ensures) ∙ c .if1 .taken))
+
+apply-requires : tie.Need-apply-requires
+apply-requires c κs =
+    let s = c .before .before .before .before .before .before in
+    (s .pre .1, rw (c .before .before .look-up .ensures) (s .pre .2))
 
 better-of-requires : tie.Need-better-of-requires
 better-of-requires c κs = search needs
 
-returns-2 : tie.Need-returns-2
-returns-2 c = c .better-of .ensures ∙ rw (c .before .apply .ensures, c .before .before .look-up .ensures)
+returns-3 : tie.Need-returns-3
+returns-3 c = c .better-of .ensures ∙ rw (c .before .apply .ensures, c .before .before .before .before .look-up .ensures)
 
 pub take-node-spec : {M : Type 1} → statement M
 take-node-spec =
@@ -41,6 +52,8 @@ take-node-spec =
     enum-told-2
     returns
     look-up-requires
+    loses-requires
+    returns-2
     apply-requires
     better-of-requires
-    returns-2)
+    returns-3)

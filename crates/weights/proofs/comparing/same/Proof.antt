@@ -1,5 +1,9 @@
+use mathlib.Core.Path.{ap, _∙_}
+use mathlib.Core.Bool.{not}
 use borrow.Author.Tests.{eq-eqb, ne-eqb}
 use borrow.Author.Needs.{needs}
+use Rattle.weights.specs.Languages.{weightOf}
+use Rattle.weights.proofs.Compared.{none-same}
 use Rattle.weights.proofs.comparing.same.Statement.{statement}
 use Rattle.weights.proofs.comparing.same.Tie as tie
 
@@ -9,49 +13,43 @@ enum-known-x c = search needs
 enum-told : tie.Need-enum-told
 enum-told c = search needs
 
-enum-told-2 : tie.Need-enum-told-2
-enum-told-2 c = search needs
-
-enum-told-3 : tie.Need-enum-told-3
-enum-told-3 c = search needs
+is-route-requires : tie.Need-is-route-requires
+is-route-requires c κs = search needs
 
 returns : tie.Need-returns
-returns c = search needs
-
-returns-2 : tie.Need-returns-2
-returns-2 c = search needs
+returns c = let s = c .before .before .before in rw (c .before .enum-told .given .1) (ap not (c .is-route .ensures) ∙ none-same (weightOf (s .args .y)))
 
 enum-known-y : tie.Need-enum-known-y
 enum-known-y c = search needs
 
-enum-told-4 : tie.Need-enum-told-4
-enum-told-4 c = search needs
+enum-told-2 : tie.Need-enum-told-2
+enum-told-2 c = search needs
+
+returns-2 : tie.Need-returns-2
+returns-2 c = rw (c .before .before .before .x .given .1, c .enum-told2 .given .1)
 
 returns-3 : tie.Need-returns-3
-returns-3 c = rw (c .before .before .before .x .given .1, c .enum-told4 .given .1)
-
-returns-4 : tie.Need-returns-4
-returns-4 c =
+returns-3 c =
     rw (c .before .before .before .before .before .x .given .1, c .before .before .y .given .1)
     (rw (ne-eqb _ _ (c .if1 .taken)))
 
-returns-5 : tie.Need-returns-5
-returns-5 c =
+returns-4 : tie.Need-returns-4
+returns-4 c =
     rw (c .before .before .before .before .before .before .x .given .1, c .before .before .before .y .given .1)
     (rw (eq-eqb _ _ (c .before .if1 .left), ne-eqb _ _ (c .if2 .taken)))
 
-returns-6 : tie.Need-returns-6
-returns-6 c =
+returns-5 : tie.Need-returns-5
+returns-5 c =
     rw (c .before .before .before .before .before .before .before .x .given .1, c .before .before .before .before .y .given .1)
     (rw (eq-eqb _ _ (c .before .before .if1 .left), eq-eqb _ _ (c .before .if2 .left), ne-eqb _ _ (c .if3 .taken)))
 
-returns-7 : tie.Need-returns-7
-returns-7 c =
+returns-6 : tie.Need-returns-6
+returns-6 c =
     rw (c .before .before .before .before .before .before .before .before .x .given .1, c .before .before .before .before .before .y .given .1)
     (rw (eq-eqb _ _ (c .before .before .before .if1 .left), eq-eqb _ _ (c .before .before .if2 .left), eq-eqb _ _ (c .before .if3 .left), ne-eqb _ _ (c .if4 .taken)))
 
-returns-8 : tie.Need-returns-8
-returns-8 c =
+returns-7 : tie.Need-returns-7
+returns-7 c =
     rw (c .before .before .before .before .before .before .before .before .x .given .1, c .before .before .before .before .before .y .given .1)
     (rw (eq-eqb _ _ (c .before .before .before .if1 .left), eq-eqb _ _ (c .before .before .if2 .left), eq-eqb _ _ (c .before .if3 .left), eq-eqb _ _ (c .if4 .left)))
 
@@ -61,15 +59,13 @@ same-spec =
     (tie.spec
     enum-known-x
     enum-told
-    enum-told-2
-    enum-told-3
+    is-route-requires
     returns
-    returns-2
     enum-known-y
-    enum-told-4
+    enum-told-2
+    returns-2
     returns-3
     returns-4
     returns-5
     returns-6
-    returns-7
-    returns-8)
+    returns-7)
