@@ -1,7 +1,7 @@
 /* changeover.c: a whole changeover. Reads a problem file (its path as argument, else standard input), takes for the standing
    matrix what one sweep of the rows gives, settles the new matrix column by column, and asks after each column which of the two
-   lends the rows. Prints the rows that are lent in the end with their next hops, and the forwarding table. A refusal is printed in
-   words and ends with status 1.
+   lends the rows. Prints the laws of the language, the rows that are lent in the end with their next hops, and the forwarding table.
+   A refusal is printed in words and ends with status 1. Every function of the header is called.
 
    cc -Iinclude examples/changeover.c target/staticlib/libtronglephu.a -o changeover */
 #include <stdio.h>
@@ -138,6 +138,12 @@ static uint32_t next_hop(const struct network *net, const uint32_t *r, uint32_t 
                                                 r, net->matrix_words, i, j));
 }
 
+static int solves(const struct network *net, const uint32_t *r)
+{
+    return (int)done("equation", tronglephu_equation(net->language, TRONGLEPHU_LANGUAGE_NUMBERS, net->n, net->arcs,
+                                                     net->matrix_words, r, net->matrix_words));
+}
+
 /* ---- printing */
 
 static void print_values(const struct network *net, const uint32_t *words)
@@ -148,6 +154,21 @@ static void print_values(const struct network *net, const uint32_t *words)
     }
     for (uint32_t k = 0; k < net->language[0]; k++)
         printf(" %u", words[k]);
+}
+
+/* Which laws the language has, and for one that it lacks the weights s, x and y that break it. */
+static void print_laws(const struct network *net)
+{
+    static const char names[] = "DUC";
+    static const uint32_t bits[] = {TRONGLEPHU_LAW_D, TRONGLEPHU_LAW_U, TRONGLEPHU_LAW_C};
+    uint32_t report[TRONGLEPHU_REPORT_WORDS];
+    uint32_t held = done("laws", tronglephu_laws(net->language, TRONGLEPHU_LANGUAGE_NUMBERS, report, TRONGLEPHU_REPORT_WORDS));
+    for (size_t law = 0; law < 3; law++) {
+        printf("law %c: %s", names[law], held & bits[law] ? "held" : "broken by");
+        for (size_t k = 0; k < 3 && !(held & bits[law]); k++)
+            print_values(net, report + (3 * law + k) * TRONGLEPHU_WEIGHT_WORDS);
+        printf("\n");
+    }
 }
 
 /* Row i as it is lent: for each j the weight, and the next hop where there is one. */
@@ -192,6 +213,7 @@ int main(int count, char **words)
     for (uint32_t i = 0; i < net.n; i++)
         rows[i] = i;
     fresh(&net, standing);
+    print_laws(&net);
     steps(&net, standing, rows, net.n);
     fresh(&net, newer);
     for (uint32_t j = 0; j < net.n; j++) {
@@ -200,6 +222,7 @@ int main(int count, char **words)
         printf("column %u settled: the %s matrix lends\n", j,
                lender(&net, standing, newer, 0) == TRONGLEPHU_NEWER ? "new" : "standing");
     }
+    printf("the new matrix %s the equation\n", solves(&net, newer) ? "satisfies" : "does not satisfy");
     for (uint32_t i = 0; i < net.n; i++) {
         int is_new = lender(&net, standing, newer, i) == TRONGLEPHU_NEWER;
         printf("row %u, lent by the %s matrix\n", i, is_new ? "new" : "standing");
