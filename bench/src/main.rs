@@ -18,11 +18,10 @@ use std::hint::black_box;
 use std::process::ExitCode;
 use std::time::{Duration, Instant};
 
-use networks::{network, Named, LANGUAGES};
+use networks::{network, Arcs, Named, LANGUAGES};
 use work::{Bench, Work};
 
 const NODES: [usize; 3] = [4, 8, 16];
-const DENSITIES: [u32; 2] = [20, 100];
 /// A measurement repeats its work until it takes about this long.
 const LONG_ENOUGH: Duration = Duration::from_micros(40);
 
@@ -39,7 +38,7 @@ struct Row {
     work: Work,
     language: &'static str,
     n: usize,
-    density: u32,
+    arcs: Arcs,
     times: Vec<Times>,
 }
 
@@ -80,12 +79,12 @@ fn run(options: &Options) -> Result<Vec<Row>, String> {
     for work in Work::ALL {
         for language in &LANGUAGES {
             for n in NODES {
-                for density in DENSITIES {
+                for &arcs in row_arcs(work) {
                     rows.push(Row {
                         work,
                         language: language.name,
                         n,
-                        density,
+                        arcs,
                         times: Vec::new(),
                     });
                 }
@@ -97,7 +96,7 @@ fn run(options: &Options) -> Result<Vec<Row>, String> {
         let language = named(row.language);
         for turn in 0..each {
             let seed = (index * each + turn) as u64 + 1;
-            let network = network(language, row.n, row.density, seed);
+            let network = network(language, row.n, row.arcs, seed);
             let mut bench = Bench::new(row.work, language, network);
             bench.agree()?;
             row.times
@@ -105,6 +104,14 @@ fn run(options: &Options) -> Result<Vec<Row>, String> {
         }
     }
     Ok(rows)
+}
+
+/// A ring is for the work that is passes of a settle.
+fn row_arcs(work: Work) -> &'static [Arcs] {
+    match work {
+        Work::Settle | Work::Handover => &[Arcs::Sparse, Arcs::Dense, Arcs::Ring],
+        Work::Sweeps | Work::Forward | Work::Read => &[Arcs::Sparse, Arcs::Dense],
+    }
 }
 
 fn named(name: &str) -> &'static Named {
@@ -167,11 +174,11 @@ impl Row {
 
     fn line(&self) -> String {
         format!(
-            "| {} | {} | {} | {}% | {:.0} | {:.0} | {:.0} | {:.2} ({:.2} to {:.2}) | {:.2} |",
+            "| {} | {} | {} | {} | {:.0} | {:.0} | {:.0} | {:.2} ({:.2} to {:.2}) | {:.2} |",
             self.work.name(),
             self.language,
             self.n,
-            self.density,
+            self.arcs.name(),
             self.median(0),
             self.median(1),
             self.median(2),
@@ -218,7 +225,7 @@ fn growth(rows: &[Row]) -> String {
     for work in Work::ALL {
         for language in &LANGUAGES {
             let dense = rows.iter().filter(|row| {
-                row.work == work && row.language == language.name && row.density == 100
+                row.work == work && row.language == language.name && row.arcs == Arcs::Dense
             });
             let times: Vec<f64> = dense.map(|row| row.median(0)).collect();
             let _ = writeln!(

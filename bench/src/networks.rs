@@ -92,6 +92,31 @@ impl Named {
     }
 }
 
+/// Which arcs a network has: a part of them, all, or all with a ring of good ones, where a settle makes the most passes.
+#[derive(Clone, Copy, PartialEq, Eq, Debug)]
+pub enum Arcs {
+    Sparse,
+    Dense,
+    Ring,
+}
+
+impl Arcs {
+    pub fn name(self) -> &'static str {
+        match self {
+            Arcs::Sparse => "20%",
+            Arcs::Dense => "100%",
+            Arcs::Ring => "ring",
+        }
+    }
+
+    fn percent(self) -> u32 {
+        match self {
+            Arcs::Sparse => 20,
+            Arcs::Dense | Arcs::Ring => 100,
+        }
+    }
+}
+
 /// One network with its table and file.
 pub struct Network {
     pub n: usize,
@@ -101,14 +126,14 @@ pub struct Network {
     pub file: Vec<u8>,
 }
 
-pub fn network(language: &Named, n: usize, density: u32, seed: u64) -> Network {
+pub fn network(language: &Named, n: usize, which: Arcs, seed: u64) -> Network {
     let mut dice = Dice::new(seed);
     let m = 2 * n;
     let count = language.components.len();
     let mut entries = |columns: usize, words: usize| {
         let mut list = vec![ONES; n * columns * words];
         for entry in list.chunks_mut(words) {
-            if dice.below(100) < density {
+            if dice.below(100) < which.percent() {
                 entry.fill(0);
                 for (index, word) in entry.iter_mut().take(count).enumerate() {
                     *word = language.value(&mut dice, index);
@@ -120,8 +145,11 @@ pub fn network(language: &Named, n: usize, density: u32, seed: u64) -> Network {
         }
         list
     };
-    let arcs = entries(n, 4);
+    let mut arcs = entries(n, 4);
     let mapping = entries(m, 5);
+    if which == Arcs::Ring {
+        put_ring(&mut arcs, n);
+    }
     let file = file_of(language, n, m, &arcs, &mapping);
     Network {
         n,
@@ -129,6 +157,14 @@ pub fn network(language: &Named, n: usize, density: u32, seed: u64) -> Network {
         arcs,
         mapping,
         file,
+    }
+}
+
+/// The first value is 0 where an arc goes to the next node, and 1 or more elsewhere: the best way to every node is round.
+fn put_ring(arcs: &mut [u32], n: usize) {
+    for (place, entry) in arcs.chunks_mut(4).enumerate() {
+        let is_next = place % n == (place / n + 1) % n;
+        entry[0] = if is_next { 0 } else { entry[0].max(1) };
     }
 }
 

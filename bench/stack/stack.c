@@ -6,8 +6,8 @@
    Time: the median of up to 501 single calls on the same input, the least of three rounds, less that of reading the clock; of all
    done inputs of a line the slowest. What a call writes is put back before each. On a machine that does other work one run does
    not tell enough: take several and give their range.
-   Inputs: dense networks (every arc, self-arcs too) in five languages, each with values that tie until the last component, and
-   with any values. */
+   Inputs: dense networks (every arc, self-arcs too) in five languages, each with any values, with values that tie until the last
+   component, and of these a ring, where a settle makes the most passes. */
 #define _GNU_SOURCE
 #include <stdio.h>
 #include <stdlib.h>
@@ -187,7 +187,8 @@ static uint32_t any(void)
     return (uint32_t)(state >> 32);
 }
 
-enum { LANGUAGES = 5, SPREADS = 2 };
+enum { LANGUAGES = 5 };
+enum spread { ANY, TIES, RING, SPREADS };
 
 static const uint16_t languages[LANGUAGES][TRONGLEPHU_LANGUAGE_NUMBERS] = {
     {1, TRONGLEPHU_DIST, 0, TRONGLEPHU_DIST, 0, TRONGLEPHU_DIST, 0, TRONGLEPHU_DIST, 0},
@@ -197,14 +198,23 @@ static const uint16_t languages[LANGUAGES][TRONGLEPHU_LANGUAGE_NUMBERS] = {
     {4, TRONGLEPHU_DIST, 0, TRONGLEPHU_DIST, 0, TRONGLEPHU_DIST, 0, TRONGLEPHU_DIST, 0},
 };
 
-/* A route of the language: any values, or 0 (a width's limit) but for the last component. */
-static void put_route(const uint16_t *language, int ties, uint32_t *words)
+/* A value of the last component in a ring: the best that is no unit where the arc goes to the next node, else a bad one. */
+static uint32_t ring_value(int is_width, int is_next)
+{
+    if (is_width)
+        return is_next ? 65535 : 1 + any() % 1000;
+    return is_next ? 1 : 60000 + any() % 5000;
+}
+
+/* A route of the language: any values; or, but in the last component, values that tie: 0, or a width's limit. */
+static void put_route(const uint16_t *language, enum spread spread, int is_next, uint32_t *words)
 {
     for (int place = 0; place < language[0]; place++) {
         int is_width = language[1 + 2 * place] == TRONGLEPHU_WIDTH;
-        int is_free = !ties || place == language[0] - 1;
+        int is_free = spread == ANY || place == language[0] - 1;
         uint32_t lowest = is_width ? 1 : 0, tie = is_width ? language[2 + 2 * place] : 0;
-        words[place] = is_free ? lowest + any() % 65535 : tie;
+        uint32_t value = spread == RING ? ring_value(is_width, is_next) : lowest + any() % 65535;
+        words[place] = is_free ? value : tie;
     }
 }
 
@@ -224,16 +234,17 @@ static void expect_done(const char *what)
 }
 
 /* A dense network with its best matrix, in mode 1. */
-static void dense(struct input *x, const uint16_t *language, int ties)
+static void dense(struct input *x, const uint16_t *language, enum spread spread)
 {
     memset(x, 0, sizeof *x);
     memcpy(x->language, language, sizeof x->language);
     x->n = N, x->m = M, x->mode = TRONGLEPHU_PLAIN, x->i = 0, x->j = N - 1;
     x->a_count = x->r_count = MATRIX;
-    for (size_t at = 0; at < MATRIX; at += TRONGLEPHU_WEIGHT_WORDS)
-        put_route(language, ties, x->a + at);
+    for (size_t i = 0; i < N; i++)
+        for (size_t k = 0; k < N; k++)
+            put_route(language, spread, k == (i + 1) % N, x->a + (i * N + k) * TRONGLEPHU_WEIGHT_WORDS);
     for (size_t at = 0; at < TABLE; at += ENTRY)
-        put_route(language, ties, x->mapping + at);
+        put_route(language, spread, 0, x->mapping + at);
     settle_all(x);
     now = *x;
     call_fresh();
@@ -432,8 +443,8 @@ int main(void)
             expect_done("read");
     }
     for (int language = 0; language < LANGUAGES; language++)
-        for (int ties = 0; ties < SPREADS; ties++) {
-            dense(&x, languages[language], ties);
+        for (int spread = ANY; spread < SPREADS; spread++) {
+            dense(&x, languages[language], (enum spread)spread);
             measure_network(&x);
             measure_refused(&x);
             measure_overflow(&x);
