@@ -1,12 +1,11 @@
 -- There is one best weight over the paths that visit no node twice, and `best` computes it.
-use Prim.Native.Nat.{ℕ, zero, suc, _≤_, _<_}
-use mathlib.Core.Path.{_≡_, refl, sym, _∙_, ap, subst}
-use mathlib.Core.Bool.{Bool, true, false}
+use Prim.Native.Nat.{ℕ, _<_}
+use mathlib.Core.Path.{_≡_, refl, sym, _∙_, subst}
 use mathlib.Core.Logic.{_⊎_, inl, inr}
 use mathlib.Core.List.{List, [], _∷_}
 use Rattle.algebra.specs.Algebra.{Algebra, order}
 use Rattle.algebra.specs.Order.{pick}
-use Rattle.algebra.specs.Path.{Mem, Simple, Matrix, pathWeight}
+use Rattle.algebra.specs.Path.{Mem, Simple, pathWeight}
 use Rattle.algebra.specs.Best.{OfSimplePath, Best, simplePaths, bestAmong, best}
 use Rattle.algebra.proofs.Orders.{NoWorse, nw-trans, nw-antisym, Picked, pick-is}
 use Rattle.algebra.specs.Network.{Network}

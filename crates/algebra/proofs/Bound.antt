@@ -1,13 +1,13 @@
 -- Sums stay small: a path that visits no node twice has at most n - 1 arcs, so what the steps store is at most n - 1 times an arc's sum.
-use Prim.Native.Nat.{ℕ, zero, suc, _+_, _*_, _≤_, _<_}
-use mathlib.Core.Path.{_≡_, refl, sym, _∙_}
-use mathlib.Core.Logic.{_⊎_, inl, inr}
+use Prim.Native.Nat.{ℕ, suc, _+_, _*_, _≤_, _<_}
+use mathlib.Core.Path.{_≡_}
+use mathlib.Core.Logic.{inl, inr}
 use mathlib.Core.List.{List, [], _∷_}
 use lib.ListN.{length}
 use native.Mathlib.Omega.{arith}
 use native.Mathlib.Nat.{mul-le-mul-right}
 use Rattle.algebra.specs.Algebra.{Algebra}
-use Rattle.algebra.specs.Path.{Below, Simple, Matrix, pathWeight}
+use Rattle.algebra.specs.Path.{Below, Matrix, pathWeight}
 use Rattle.algebra.specs.Best.{OfSimplePath}
 use Rattle.algebra.specs.Step.{Step, routed, reached}
 use Rattle.algebra.specs.Network.{Network}

@@ -1,16 +1,15 @@
 -- One column of the matrix: what stays true of it under every step.
-use Prim.Native.Nat.{ℕ, zero, suc, _+_, _≤_, _<_}
+use Prim.Native.Nat.{ℕ, suc, _≤_, _<_}
 use mathlib.Core.Path.{_≡_, refl, sym, _∙_, ap, subst}
 use mathlib.Core.Bool.{Bool, true, false, cond}
 use mathlib.Core.Logic.{_⊎_, inl, inr}
-use mathlib.Core.List.{List, [], _∷_, _++_}
+use mathlib.Core.List.{List, [], _∷_}
 use lib.Dec.{eqb}
 use lib.ListN.{length}
-use borrow.Author.Tests.{eqb-true, eqb-false, eq-eqb, ne-eqb}
+use borrow.Author.Tests.{eqb-true, eq-eqb}
 use native.Mathlib.Omega.{arith}
 use native.Mathlib.Decide.{ℕ-discrete}
 use Rattle.algebra.specs.Algebra.{Algebra, order}
-use Rattle.algebra.specs.Order.{bestOf}
 use Rattle.algebra.specs.Path.{Mem, Below, Simple, Matrix, pathWeight}
 use Rattle.algebra.specs.Best.{OfSimplePath, Best, best}
 use Rattle.algebra.specs.Step.{fresh, through, routed}
@@ -19,7 +18,7 @@ use Rattle.algebra.proofs.Orders.{NoWorse, nw-refl, nw-eq, nw-trans, nw
 use Rattle.algebra.specs.Network.{Network}
 use Rattle.algebra.proofs.Joining.{nw-none, nw-join, nw-grows}
 use Rattle.algebra.proofs.Paths.{simple-rest, simple-stay, simple-more, simple-short}
-use Rattle.algebra.proofs.Bests.{best-is, simple-valid, held-valid, best-nw, best-nw-held, best-unique}
+use Rattle.algebra.proofs.Bests.{simple-valid, held-valid, best-nw, best-nw-held}
 
 module _ (𝓐 : Algebra) (A : Matrix 𝓐) (j : ℕ) where
   -- along the path p from i, the entry of column j at each node is no worse than the rest of the path

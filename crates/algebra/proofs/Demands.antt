@@ -1,6 +1,6 @@
 -- Every lawful algebra meets demand 3.
-use mathlib.Core.Path.{_≡_, refl, sym, ap}
-use mathlib.Core.Logic.{_⊎_, inl, inr}
+use mathlib.Core.Path.{_≡_, sym, ap}
+use mathlib.Core.Logic.{inl, inr}
 use mathlib.Core.List.{List, [], _∷_, _++_}
 use Rattle.algebra.specs.Path.{Mem}
 use Rattle.algebra.specs.Step.{Step, settle}

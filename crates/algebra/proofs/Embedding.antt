@@ -1,14 +1,14 @@
 -- One algebra inside another: a map that keeps better, join, unit and no route keeps the best of several, the best over paths, and every step.
 use Prim.Native.Nat.{ℕ, zero, suc, _<_}
-use mathlib.Core.Path.{_≡_, refl, sym, _∙_, ap, ap₂}
+use mathlib.Core.Path.{_≡_, refl, sym, _∙_, ap₂}
 use mathlib.Core.Bool.{Bool, true, false, cond}
-use mathlib.Core.Logic.{_⊎_, inl, inr}
+use mathlib.Core.Logic.{inl, inr}
 use mathlib.Core.List.{List, [], _∷_}
 use lib.Dec.{eqb}
 use native.Mathlib.Omega.{arith}
 use Rattle.algebra.specs.Algebra.{Algebra, order}
 use Rattle.algebra.specs.Order.{pick, bestOf}
-use Rattle.algebra.specs.Path.{Mem, Below, Simple, Matrix, pathWeight}
+use Rattle.algebra.specs.Path.{Mem, Below, Matrix, pathWeight}
 use Rattle.algebra.specs.Best.{simplePaths, bestAmong, best}
 use Rattle.algebra.specs.Step.{Step, row, settle, fresh, through, routed, step, run}
 use Rattle.algebra.proofs.Enumeration.{simplePaths-sound}

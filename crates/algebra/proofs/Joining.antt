@@ -1,6 +1,5 @@
 -- Weights of a lawful algebra, no worse than one another: no route, join, and that joining never improves.
-use mathlib.Core.Path.{_≡_, refl, sym, _∙_, subst}
-use mathlib.Core.Bool.{false}
+use mathlib.Core.Path.{_∙_, subst}
 use Rattle.algebra.specs.Algebra.{Algebra, order, Lawful}
 use Rattle.algebra.proofs.Orders.{NoWorse}
 

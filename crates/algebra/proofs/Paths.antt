@@ -1,12 +1,12 @@
 -- Paths that visit no node twice: their parts are such paths, and they have less than n arcs.
 use Prim.Native.Nat.{ℕ, zero, suc, _≤_, _<_}
 use mathlib.Core.Path.{_≡_, refl, subst}
-use mathlib.Core.Logic.{_⊎_, inl, inr}
+use mathlib.Core.Logic.{inl, inr}
 use mathlib.Core.List.{List, [], _∷_}
 use lib.ListN.{length}
 use native.Mathlib.Omega.{arith}
 use native.Mathlib.Decide.{ℕ-discrete}
-use Rattle.algebra.specs.Path.{Mem, Below, Distinct, Simple, Matrix, pathWeight}
+use Rattle.algebra.specs.Path.{Mem, Below, Distinct, Simple, pathWeight}
 use Rattle.algebra.specs.Network.{Network}
 
 -- the rest of a simple path is simple

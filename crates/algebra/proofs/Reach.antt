@@ -1,23 +1,22 @@
 -- What holds of every matrix that steps reach from the fresh one, and of a column that is settled or satisfies the equation.
 use Prim.Native.Nat.{ℕ, zero, suc, _+_, _≤_, _<_}
-use mathlib.Core.Path.{_≡_, refl, sym, _∙_, ap, subst}
+use mathlib.Core.Path.{_≡_, refl, subst}
 use mathlib.Core.Bool.{Bool, true, false, cond}
 use mathlib.Core.Logic.{_⊎_, inl, inr}
 use mathlib.Core.List.{List, [], _∷_, _++_}
 use lib.Dec.{eqb}
 use lib.ListN.{length}
-use borrow.Author.Tests.{eqb-true, eqb-false, eq-eqb, ne-eqb}
+use borrow.Author.Tests.{eq-eqb}
 use native.Mathlib.Omega.{arith}
 use native.Mathlib.Nat.{zero-add, suc-add, add-suc}
 use Rattle.algebra.specs.Algebra.{Algebra, order}
 use Rattle.algebra.specs.Path.{Mem, Simple, Matrix, pathWeight}
-use Rattle.algebra.specs.Best.{OfSimplePath, Best, best}
+use Rattle.algebra.specs.Best.{OfSimplePath, best}
 use Rattle.algebra.specs.Step.{Step, row, settle, EveryRow, Stretches, fresh, routed, Solves, step, run, reached}
 use Rattle.algebra.specs.Demand.{HoldsBest}
-use Rattle.algebra.proofs.Orders.{NoWorse, nw-refl, nw-eq, nw-trans, nw-antisym}
+use Rattle.algebra.proofs.Orders.{NoWorse, nw-refl, nw-trans, nw-antisym}
 use Rattle.algebra.specs.Network.{Network}
-use Rattle.algebra.proofs.Joining.{nw-none}
-use Rattle.algebra.proofs.Bests.{best-is, best-nw-held, best-unique}
+use Rattle.algebra.proofs.Bests.{best-is, best-nw-held}
 use Rattle.algebra.proofs.Column.{Sane, Moved, moved-down, moved-sane, supported-held, fresh-sane, best-sane, stay-best, Near, near-fresh, near-down, near-routed, near-best}
 
 pub run-append : (𝓐 : Algebra) (n : ℕ) (A : Matrix 𝓐) (s t : List Step) (R : Matrix 𝓐) → run 𝓐 n A (s ++ t) R ≡ run 𝓐 n A t (run 𝓐 n A s R)

@@ -3,7 +3,7 @@ use mathlib.Core.Path.{_≡_, refl, sym, _∙_, ap, subst}
 use mathlib.Core.Bool.{Bool, true, false, cond}
 use Rattle.algebra.specs.Order.{Ordered, pick}
 use Rattle.algebra.specs.Algebra.{Algebra, order}
-use Rattle.algebra.proofs.Orders.{NoWorse, pick-is}
+use Rattle.algebra.proofs.Orders.{pick-is}
 
 module _ (𝓐 : Algebra) (𝓞 : Ordered (order 𝓐)) (join-valid : (x y : 𝓐 .Weight) → 𝓐 .Valid x → 𝓐 .Valid y → 𝓐 .Valid (𝓐 .join x y)) where
   open Algebra 𝓐 using (Weight, Valid, better, join)

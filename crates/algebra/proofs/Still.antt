@@ -1,13 +1,12 @@
 -- A matrix that satisfies the routing equation is changed by no row step, so sweeping never repairs one that is not the best.
 use Prim.Native.Nat.{ℕ, _<_}
-use mathlib.Core.Path.{_≡_, refl, sym, _∙_, ap, ap₂}
+use mathlib.Core.Path.{_≡_, refl, sym, _∙_, ap}
 use mathlib.Core.Bool.{Bool, true, false, cond}
 use mathlib.Core.List.{List, [], _∷_, map}
 use lib.Dec.{eqb}
 use Rattle.algebra.specs.Algebra.{Algebra, order}
-use Rattle.algebra.specs.Order.{bestOf}
 use Rattle.algebra.specs.Path.{Matrix}
-use Rattle.algebra.specs.Step.{Step, row, fresh, through, routed, Solves, step, run}
+use Rattle.algebra.specs.Step.{row, fresh, through, routed, Solves, step, run}
 use Rattle.algebra.proofs.Orders.{bestOf-same}
 
 module _ (𝓐 : Algebra) (n : ℕ) (A : Matrix 𝓐) where

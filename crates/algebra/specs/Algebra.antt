@@ -1,7 +1,7 @@
 -- What a routing language is made of, and when it is lawful.
 -- To be believed: `Algebra`. `Lawful` is what the theorems ask; that a language has it is proved where languages are defined.
 use mathlib.Core.Path.{_≡_}
-use mathlib.Core.Bool.{Bool, true, false}
+use mathlib.Core.Bool.{Bool, false}
 use Rattle.algebra.specs.Order.{Order, Ordered}
 
 -- Weights, the valid ones, "better", join, the unit weight and no route.

@@ -22,6 +22,7 @@ pub fn to_bytes(words: &[u32], bytes: &mut [u8]) {
     }
 }
 
+// The number of a kind.
 fn kind(c: Component) -> u32 {
     match c {
         Component::Dist => 1,
@@ -31,6 +32,7 @@ fn kind(c: Component) -> u32 {
     }
 }
 
+// A limit, 0 where the kind has none.
 fn limit(c: Component) -> u32 {
     match c {
         Component::Dist => 0,
@@ -40,11 +42,13 @@ fn limit(c: Component) -> u32 {
     }
 }
 
+// Puts kind and limit.
 fn put_component(frame: &mut [u8], at: usize, c: Component) -> usize {
     let words = [kind(c), limit(c)];
     frames::put(frame, at, &words)
 }
 
+// Puts the count, and kind and limit of the four places.
 fn put_language(frame: &mut [u8], at: usize, l: Language) -> usize {
     let count = [l.count];
     let one = l.first;
@@ -58,6 +62,7 @@ fn put_language(frame: &mut [u8], at: usize, l: Language) -> usize {
     put_component(frame, after_three, four)
 }
 
+// Sends what was read.
 fn send_read(n: u32, m: u32, mode: u32, l: Language, arcs: &[u32], mapping: &[u32]) {
     let mut frame = io::large_buffer();
     let start = frames::begin(&mut frame, done());
@@ -80,6 +85,7 @@ fn send_unread(r: Refusal, arcs: &[u32], mapping: &[u32]) {
     frames::send(&mut frame, end);
 }
 
+// Reads into the two buffers, and sends the answer.
 fn read(file: &[u8], arcs: &mut [u32], mapping: &mut [u32]) {
     match files::reading::read(file, arcs, mapping) {
         ReadAnswer::Done {
@@ -92,6 +98,7 @@ fn read(file: &[u8], arcs: &mut [u32], mapping: &mut [u32]) {
     }
 }
 
+// Reads over copies of the buffers that were given.
 fn read_on(file: &[u32], given_arcs: &[u32], given_mapping: &[u32]) {
     let arcs_size = given_arcs.len();
     let mapping_size = given_mapping.len();

@@ -6,6 +6,7 @@ use super::shared::told;
 use exchange::requests;
 use handover::LenderAnswer;
 
+// How many words are lent, or 65,535 where they are more than a matrix has room for.
 fn length(part: &[u32]) -> u32 {
     let size = part.len();
     if ROOM < size {
@@ -14,6 +15,7 @@ fn length(part: &[u32]) -> u32 {
     size as u32
 }
 
+// Asks for the row, and sends it.
 fn lent<'b>(words: &[u32], a: &[u32], standing: &'b [u32], newer: &'b [u32]) {
     let l = requests::language(words);
     let n = requests::number(words, requests::NODES);
@@ -51,6 +53,7 @@ fn lender(answer: LenderAnswer) -> u32 {
     }
 }
 
+// Asks which buffer lends, or which refusal there is, and sends the answer.
 fn which(words: &[u32], a: &[u32], standing: &[u32], newer: &[u32]) {
     let l = requests::language(words);
     let n = requests::number(words, requests::NODES);

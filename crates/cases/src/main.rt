@@ -4,6 +4,7 @@
 // Response: number, which, place; the values of the answer; every buffer that the call may write. It is the single word
 // 4294967295 where a buffer is too long for this program. A request that does not add up ends the program.
 mod filed;
+mod hopping;
 mod lent;
 mod printed;
 mod report;
@@ -22,7 +23,7 @@ fn answer(words: &[u32]) -> bool {
         3 => routing::steps_call(words),
         4 => routing::equation_call(words),
         5 => tabled::forward_call(words),
-        6 => routing::hop_call(words),
+        6 => hopping::hop_call(words),
         7 => lent::lent_call(words),
         8 => lent::which_call(words),
         9 => filed::read_call(words),

@@ -10,6 +10,7 @@ const TEXT_ROOM: usize = 60000;
 // Where the text starts in a response: after the first word, the row, and its length.
 const TEXT_START: usize = 20;
 
+// Copies as much as there is room for.
 fn copy_bytes(from: &[u8], to: &mut [u8]) {
     let mut i: usize = 0;
     while i < from.len() {
@@ -37,6 +38,7 @@ fn send_text(text: &[u8]) {
     frames::send(&mut frame, end);
 }
 
+// Prints the text of a file, and sends it.
 fn print_on(file: &[u32]) {
     let size = file.len();
     let mut bytes = io::large_buffer();

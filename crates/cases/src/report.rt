@@ -7,15 +7,18 @@ use laws::LawAnswer;
 use laws::Words;
 use refusals::Refusal;
 
+// 1 where the law is held.
 fn held(law: Law) -> u32 {
     if law.held { 1 } else { 0 }
 }
 
+// Puts the four words of a weight.
 fn put_words(frame: &mut [u8], at: usize, w: Words) -> usize {
     let words = [w.first, w.second, w.third, w.fourth];
     frames::put(frame, at, &words)
 }
 
+// Puts the twelve words of a law: s, x and y.
 fn put_law(frame: &mut [u8], at: usize, law: Law) -> usize {
     let s = law.s;
     let x = law.x;
@@ -25,6 +28,7 @@ fn put_law(frame: &mut [u8], at: usize, law: Law) -> usize {
     put_words(frame, after_x, y)
 }
 
+// Sends the report of the three laws.
 fn send_report(d: Law, u: Law, c: Law) {
     let mut frame = io::large_buffer();
     let start = frames::begin(&mut frame, done());
@@ -36,6 +40,7 @@ fn send_report(d: Law, u: Law, c: Law) {
     frames::send(&mut frame, end);
 }
 
+// Sends a refusal, every other field zero.
 fn send_no_report(r: Refusal) {
     let mut frame = io::large_buffer();
     let start = frames::begin(&mut frame, refusals::tell(r));

@@ -1,4 +1,4 @@
-// Fresh, steps, the equation and the next hop.
+// Fresh, steps and the equation.
 use super::shared::ROOM;
 use super::shared::copy;
 use super::shared::done;
@@ -6,7 +6,6 @@ use super::shared::respond;
 use super::shared::told;
 use exchange::frames;
 use exchange::requests;
-use hops::HopAnswer;
 use refusals::Told;
 use routes::EquationAnswer;
 use routes::StepsAnswer;
@@ -14,11 +13,13 @@ use weights::Language;
 
 // ---- fresh
 
+// Makes the fresh matrix, and sends it.
 fn fresh(l: Language, n: u32, r: &mut [u32]) {
     let answer = routes::fresh::fresh(l, n, r);
     respond(told(answer), &[], r);
 }
 
+// Works on a copy of the buffer that was given.
 fn fresh_on(l: Language, n: u32, given: &[u32]) {
     let size = given.len();
     if ROOM < size {
@@ -45,6 +46,7 @@ pub fn fresh_call(words: &[u32]) -> bool {
 
 // ---- steps
 
+// The row of an answer.
 fn steps_told(answer: StepsAnswer) -> Told {
     match answer {
         StepsAnswer::Done(_) => done(),
@@ -52,6 +54,7 @@ fn steps_told(answer: StepsAnswer) -> Told {
     }
 }
 
+// The steps done, on a refusal too.
 fn steps_done(answer: StepsAnswer) -> u32 {
     match answer {
         StepsAnswer::Done(count) => count,
@@ -59,12 +62,14 @@ fn steps_done(answer: StepsAnswer) -> u32 {
     }
 }
 
+// Runs the list, and sends the answer and the matrix.
 fn steps(l: Language, n: u32, a: &[u32], r: &mut [u32], list: &[u32]) {
     let answer = routes::steps::steps(l, n, a, r, list);
     let values = [steps_done(answer)];
     respond(steps_told(answer), &values, r);
 }
 
+// Works on a copy of the matrix that was given.
 fn steps_on(l: Language, n: u32, a: &[u32], given: &[u32], list: &[u32]) {
     let size = given.len();
     if ROOM < size {
@@ -99,6 +104,7 @@ pub fn steps_call(words: &[u32]) -> bool {
 
 // ---- equation
 
+// The row of an answer.
 fn equation_told(answer: EquationAnswer) -> Told {
     match answer {
         EquationAnswer::Yes => done(),
@@ -107,6 +113,7 @@ fn equation_told(answer: EquationAnswer) -> Told {
     }
 }
 
+// 1 where the equation is satisfied.
 fn satisfied(answer: EquationAnswer) -> u32 {
     match answer {
         EquationAnswer::Yes => 1,
@@ -115,6 +122,7 @@ fn satisfied(answer: EquationAnswer) -> u32 {
     }
 }
 
+// Asks for the equation, and sends the answer.
 fn equation(l: Language, n: u32, a: &[u32], r: &[u32]) {
     let answer = routes::equation::equation(l, n, a, r);
     let values = [satisfied(answer)];
@@ -137,60 +145,5 @@ pub fn equation_call(words: &[u32]) -> bool {
         &words[start..first],
         &words[first..second],
     );
-    true
-}
-
-// ---- next hop
-
-fn hop_told(answer: HopAnswer) -> Told {
-    match answer {
-        HopAnswer::Hop(_) => done(),
-        HopAnswer::NoHop => done(),
-        HopAnswer::Refused(r) => refusals::tell(r),
-    }
-}
-
-fn found(answer: HopAnswer) -> u32 {
-    match answer {
-        HopAnswer::Hop(_) => 1,
-        HopAnswer::NoHop => 0,
-        HopAnswer::Refused(_) => 0,
-    }
-}
-
-fn small(number: usize) -> u32 {
-    if 65535 < number {
-        return 65535;
-    }
-    number as u32
-}
-
-fn hop_node(answer: HopAnswer) -> u32 {
-    match answer {
-        HopAnswer::Hop(node) => small(node.0),
-        HopAnswer::NoHop => 0,
-        HopAnswer::Refused(_) => 0,
-    }
-}
-
-fn hop(words: &[u32], a: &[u32], r: &[u32]) {
-    let n = requests::number(words, requests::NODES);
-    let i = requests::number(words, requests::FROM);
-    let j = requests::number(words, requests::TO);
-    let answer = hops::next_hop::next_hop(requests::language(words), n, a, r, i, j);
-    let values = [found(answer), hop_node(answer)];
-    respond(hop_told(answer), &values, &[]);
-}
-
-// Call 6: buffers a and r, from i to j; 1 and the node, or 0 and 0.
-pub fn hop_call(words: &[u32]) -> bool {
-    if !requests::adds_up(words, 2) {
-        return false;
-    }
-    let p = requests::cut(words, 2);
-    let start = p.start;
-    let first = p.first;
-    let second = p.second;
-    hop(words, &words[start..first], &words[first..second]);
     true
 }

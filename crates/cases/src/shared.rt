@@ -3,11 +3,13 @@ use exchange::frames;
 use refusals::Answer;
 use refusals::Told;
 
-// The room for a matrix, and for a table, that a call writes.
+// The room for a matrix that a call writes.
 pub const ROOM: usize = 1280;
 
+// The room for a table that a call writes.
 pub const TABLE_ROOM: usize = 2816;
 
+// The row of done.
 pub fn done() -> Told {
     Told {
         number: 0,
@@ -16,6 +18,7 @@ pub fn done() -> Told {
     }
 }
 
+// The row of an answer that gives no number.
 pub fn told(answer: Answer) -> Told {
     match answer {
         Answer::Done => done(),
@@ -23,6 +26,7 @@ pub fn told(answer: Answer) -> Told {
     }
 }
 
+// Copies as much as there is room for.
 pub fn copy(from: &[u32], to: &mut [u32]) {
     let mut i: usize = 0;
     while i < from.len() {

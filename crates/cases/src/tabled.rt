@@ -6,6 +6,7 @@ use super::shared::told;
 use exchange::frames;
 use exchange::requests;
 
+// Makes the forwarding table, and sends it.
 fn forward(words: &[u32], a: &[u32], r: &[u32], mapping: &[u32], f: &mut [u32]) {
     let l = requests::language(words);
     let n = requests::number(words, requests::NODES);
@@ -15,6 +16,7 @@ fn forward(words: &[u32], a: &[u32], r: &[u32], mapping: &[u32], f: &mut [u32]) 
     respond(told(answer), &[], f);
 }
 
+// Works on a copy of the table that was given.
 fn forward_on(words: &[u32], a: &[u32], r: &[u32], mapping: &[u32], given: &[u32]) {
     let size = given.len();
     if TABLE_ROOM < size {

@@ -11,7 +11,7 @@ use Rattle.algebra.specs.Step.{fresh}
 use Rattle.weights.specs.declared.Component.{Component}
 use Rattle.weights.specs.Sizes.{places, weightWords}
 use Rattle.weights.specs.Weights.{Weight, Valid, join, language}
-use Rattle.weights.specs.Languages.{AtMost}
+use Rattle.weights.specs.Values.{AtMost}
 use Rattle.matrices.specs.Buffers.{rowIn}
 use Rattle.matrices.specs.Steps.{Matrix}
 

@@ -5,6 +5,7 @@ use weights::Language;
 ghost use mathlib.Core.Path.{_≡_};
 ghost use Rattle.door.specs.Languages.{componentOf, languageOf};
 
+// The numbers of the kinds, which are the file's tags.
 const DIST: u16 = 1;
 
 const WIDTH: u16 = 2;

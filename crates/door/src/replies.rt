@@ -7,6 +7,7 @@ ghost use Rattle.refusals.specs.Told as table;
 ghost use Rattle.refusals.specs.Checks.{answerTold};
 ghost use Rattle.door.specs.Replies.{replyOf};
 
+// Done, with the one number that the call gives.
 pub fn done(value: u32) -> Reply
     ensures { λ x. ⌜ x ≡ replyOf table.done value ⌝ }
 {

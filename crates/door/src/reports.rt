@@ -8,13 +8,13 @@ ghost use mathlib.Core.List.{_++_};
 ghost use Prim.Native.Nat.{_+_, _≤_};
 ghost use lib.ListN.{length, drop};
 ghost use lib.Seq.{sets};
-ghost use Rattle.laws.specs.Report.{wordsOf, lawOf};
+ghost use Rattle.laws.specs.Report.{fourWords, lawOf};
 ghost use Rattle.door.specs.Reports.{lawWords, lawsWords, reportWords, heldLaws};
 
 // Writes four words from `at` on.
 fn put_words(s: &mut [u32], at: usize, w: Words)
     requires { ⌜ at + 4 ≤ length (now s) ⌝ }
-    ensures { λ _. ⌜ now (s .exit) ≡ sets (now (s .entry)) at (wordsOf w) ⌝ }
+    ensures { λ _. ⌜ now (s .exit) ≡ sets (now (s .entry)) at (fourWords w) ⌝ }
 {
     put_pair(s, at, w.first, w.second);
     put_pair(s, at + 2, w.third, w.fourth);
@@ -43,6 +43,7 @@ pub fn put_laws(report: &mut [u32], d: Law, u: Law, c: Law)
     put_law(report, 24, c);
 }
 
+// A law's number where it is held, else 0.
 fn worth(law: Law, number: u32) -> u32
     ensures { λ k. ⌜ (k ≡ cond (law .held) number 0) × (k ≤ number) ⌝ }
 {

@@ -10,14 +10,15 @@ use lib.ListN.{length, length-append}
 use Rattle.weights.specs.declared.Component.{Component}
 use Rattle.weights.specs.declared.Component.the-variants.{Dist, Width, Class, Gain}
 use Rattle.weights.specs.Sizes.{places, arcSum}
-use Rattle.weights.specs.Languages.{SmallLimit, SmallLimits, AllAtMost}
+use Rattle.weights.specs.Languages.{SmallLimit, SmallLimits}
+use Rattle.weights.specs.Values.{AllAtMost}
 use Rattle.weights.specs.Words.{inRange}
 use Rattle.records.specs.declared.Listing.{Listing}
 use Rattle.records.specs.declared.Listing.the-variants.{Arcs, Attachments}
 use Rattle.fields.proofs.Passing.{and-both}
 use Rattle.encoded.specs.Encode.{Entry, Problem, SoundValues, SoundOutside, noOutside, SoundEntries, SoundProblem, Nesting, one, product, nested, bytes2, bytes4, componentBytes, languageBytes, valueBytes, outsideBytes, entryBytes, entriesBytes, listBytes, bodyBytes, encode}
+use Rattle.encoded.specs.Taken.{AreBytes}
 use Rattle.encoded.proofs.Entries.{length-values, sound-length}
-use Rattle.encoded.proofs.TakenLanguage.{Bytes}
 
 abbrev All : List ℕ → Type 0
 All s = AllAtMost 255 s
@@ -26,7 +27,7 @@ all-both : (xs ys : List ℕ) → All xs → All ys → All (xs ++ ys)
 all-both [] ys x y = y
 all-both (v ∷ xs) ys x y = (x .0, all-both xs ys (x .1) y)
 
-all-at : (s : List ℕ) → All s → Bytes s
+all-at : (s : List ℕ) → All s → AreBytes s
 all-at [] a i = omega arith
 all-at (x ∷ s) a zero = a .0
 all-at (x ∷ s) a (suc i) = all-at s (a .1) i
@@ -135,7 +136,7 @@ module _ (n columns mode : ℕ) (cs : List Component) (list : Listing) (hn : n �
       let k = entries-few 0 es (omega arith) ok in
       (all-both (bytes2 (length es)) (entriesBytes list mode es) (two-bytes (length es) (omega arith)) (entries-bytes 0 es ok), omega (arith, entries-length 0 es ok))
 
-pub encode-bytes : (p : Problem) → SoundProblem p → (t : Nesting) → nested t ≡ p .language → Bytes (encode p t)
+pub encode-bytes : (p : Problem) → SoundProblem p → (t : Nesting) → nested t ≡ p .language → AreBytes (encode p t)
 unfolding encode
 encode-bytes p ok t nests =
     let few = ok .components .1 in

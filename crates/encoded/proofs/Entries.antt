@@ -1,5 +1,5 @@
 -- Reading the entries of an encoded problem: they pass, and leave the words that were encoded.
-use Prim.Native.Nat.{ℕ, suc, _+_, _-_, _*_, _≤_, _<_}
+use Prim.Native.Nat.{ℕ, suc, _+_, _*_, _≤_, _<_}
 use mathlib.Core.Path.{_≡_, refl, sym, ap, _∙_}
 use mathlib.Core.List.{List, [], _∷_, _++_, append-assoc}
 use mathlib.Core.Bool.{Bool, true, false, cond, _&&_}
@@ -17,8 +17,8 @@ use Rattle.fields.specs.declared.Head.{Head}
 use Rattle.records.specs.declared.Listing.{Listing}
 use Rattle.records.specs.declared.Listing.the-variants.{Arcs, Attachments}
 use Rattle.fields.specs.Bytes.{twoAt}
-use Rattle.records.specs.Records.{recordLength, lengthOf, endsAt, endsCheck, valuesCheck, recordCheck, recordsCheck, listCheck, listEnd}
-use Rattle.files.specs.Contents.{columns, valuesAt, outsideAt, wordsOf, recordWords, rowOf, columnOf, isAt, listedWords}
+use Rattle.records.specs.Records.{recordLength, lengthOf, endsAt, endsCheck, valuesCheck, recordCheck, recordsCheck, recordListCheck, listEnd}
+use Rattle.files.specs.Contents.{columns, valuesAt, outsideAt, withOutside, recordWords, rowOfEnds, columnOfEnds, isAt, listedWords}
 use Rattle.encoded.specs.Encode.{Entry, SoundValues, SoundOutside, SoundEntry, SoundEntries, bytes2, valueBytes, outsideBytes, entryBytes, entriesBytes, listBytes, put}
 use Rattle.encoded.proofs.Here.{here, past, within, two-here}
 
@@ -86,12 +86,12 @@ length-entry h k list low e ok =
 pub record EntryHere (s : List ℕ) (h : Head) (list : Listing) (at low : ℕ) (e : Entry) : Type 0 where
   pub passes : recordCheck s h list at low ≡ Passed
   pub key : twoAt s at ≡ e .row * 256 + e .column
-  pub row-is : rowOf (endsAt s list at) ≡ e .row
-  pub column-is : columnOf (endsAt s list at) ≡ e .column
-  pub words-are : recordWords s h list at ≡ wordsOf list (words (route (e .values))) (e .outside)
+  pub row-is : rowOfEnds (endsAt s list at) ≡ e .row
+  pub column-is : columnOfEnds (endsAt s list at) ≡ e .column
+  pub words-are : recordWords s h list at ≡ withOutside list (words (route (e .values))) (e .outside)
 
 ends-ok : (s : List ℕ) (h : Head) (list : Listing) (at x y : ℕ) → getD s at 0 ≡ x → getD s (at + 1) 0 ≡ y → x < h .n → y < columns h list
-    → (endsCheck h at (endsAt s list at) ≡ Passed) × (rowOf (endsAt s list at) ≡ x) × (columnOf (endsAt s list at) ≡ y)
+    → (endsCheck h at (endsAt s list at) ≡ Passed) × (rowOfEnds (endsAt s list at) ≡ x) × (columnOfEnds (endsAt s list at) ≡ y)
 unfolding endsCheck
 ends-ok s h Arcs at x y p q hx hy = (rw (p, q, lt-ltb x (h .n) hx, lt-ltb y (h .n) hy), p, q)
 ends-ok s h Attachments at x y p q hx hy = (rw (p, q, lt-ltb x (h .n) hx, lt-ltb y (h .m) hy), p, q)
@@ -106,7 +106,7 @@ outside-is s h at t l = go (ltb (h .mode) 2)
     go false o e = two-here s _ t l e .is
 
 words-ok : (s : List ℕ) (h : Head) → Counted h → (list : Listing) (at low : ℕ) (e : Entry) (l : List ℕ) → SoundFor h list low e
-    → drop (at + 2) s ≡ valueBytes (e .values) ++ (outsideBytes list (h .mode) (e .outside) ++ l) → recordWords s h list at ≡ wordsOf list (words (route (e .values))) (e .outside)
+    → drop (at + 2) s ≡ valueBytes (e .values) ++ (outsideBytes list (h .mode) (e .outside) ++ l) → recordWords s h list at ≡ withOutside list (words (route (e .values))) (e .outside)
 words-ok s h k Arcs at low e l ok q =
     let n = sound-length (componentsOf (h .language)) (e .values) (ok .sound) ∙ k .count-is in
     ap (λ (z : ℕ). words (route (valuesAt s (at + 2) z))) (sym n) ∙ ap (λ (z : List ℕ). words (route z)) (values-are s (e .values) (at + 2) _ q)
@@ -175,8 +175,8 @@ entries-here s h c list (e ∷ es) at low l into ok q =
 
 -- a list with its count
 pub list-here : (s : List ℕ) (h : Head) → Counted h → (list : Listing) (es : List Entry) (at : ℕ) (l : List ℕ) → AllSound h list 0 es → drop at s ≡ listBytes list (h .mode) es ++ l
-    → (listCheck s h list at ≡ Passed) × (drop (listEnd s h list at) s ≡ l) × (listEnd s h list at ≤ length s)
-unfolding listCheck listEnd
+    → (recordListCheck s h list at ≡ Passed) × (drop (listEnd s h list at) s ≡ l) × (listEnd s h list at ≤ length s)
+unfolding recordListCheck listEnd
 list-here s h c list es at l ok q =
     let b = two-here s at (length es) (entriesBytes list (h .mode) es ++ l) (q ∙ append-assoc (bytes2 (length es)) (entriesBytes list (h .mode) es) l) in
     let r = entries-here s h c list es (at + 2) 0 l (b .room) ok (b .rest) in
@@ -213,5 +213,5 @@ words-here s h c list i j first (e ∷ es) done low l into ok q =
   where
     step : EntryHere s h list (first + done * lengthOf h list) low e
         → listedWords s h list first (suc done) i j
-        ≡ cond (eqb i (e .row) && eqb j (e .column)) (wordsOf list (words (route (e .values))) (e .outside)) (listedWords s h list first done i j)
+        ≡ cond (eqb i (e .row) && eqb j (e .column)) (withOutside list (words (route (e .values))) (e .outside)) (listedWords s h list first done i j)
     step a = more s h list i j first done ∙ rw (a .row-is, a .column-is, a .words-are)

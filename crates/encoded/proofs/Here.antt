@@ -1,5 +1,5 @@
 -- What stands at an offset of a file, and reading a language there.
-use Prim.Native.Nat.{ℕ, suc, _+_, _-_, _/_, _%_, _≤_, _<_}
+use Prim.Native.Nat.{ℕ, suc, _+_, _/_, _%_, _≤_, _<_}
 use mathlib.Core.Path.{_≡_, refl, sym, ap, _∙_}
 use mathlib.Core.List.{List, [], _∷_, _++_, append-assoc}
 use native.Mathlib.Nat.{div-add-mod', add-zero}
@@ -20,6 +20,7 @@ use Rattle.fields.specs.Bytes.{twoAt}
 use Rattle.fields.specs.Nested.{noLanguage, added, nothing, withComponent, withTag, distTag, widthTag, classTag, gainTag, productTag, componentRead, after, languageAt}
 use Rattle.fields.proofs.Advancing.{read-product, read-component}
 use Rattle.encoded.specs.Encode.{Nesting, one, product, nested, bytes2, componentBytes, languageBytes, languageWith}
+use Rattle.encoded.specs.Taken.{foundAfter}
 
 pub record Here (s : List ℕ) (at x : ℕ) (l : List ℕ) : Type 0 where
   pub is : getD s at 0 ≡ x
@@ -76,11 +77,6 @@ component-here s at f (Class w) l ok e =
 abbrev pub products : Nesting → ℕ
 products (one c) = 0
 products (product x y) = suc (products x + products y)
-
--- what has been found after a language
-abbrev pub foundAfter : Found → Nesting → Found
-foundAfter f (one c) = withComponent f c
-foundAfter f (product x y) = foundAfter (foundAfter (withTag f) x) y
 
 pub found-tags : (t : Nesting) (f : Found) → foundAfter f t .tags ≡ f .tags + products t
 found-tags (one c) f = sym (add-zero (f .tags))

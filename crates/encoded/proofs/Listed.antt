@@ -7,15 +7,9 @@ use native.Mathlib.Omega.{arith}
 use borrow.Author.Tests.{eqb-true, eq-eqb}
 use lib.Dec.{eqb}
 use Rattle.weights.specs.declared.Component.{Component}
-use Rattle.weights.specs.Weights.{route}
-use Rattle.weights.specs.Words.{words}
 use Rattle.records.specs.declared.Listing.{Listing}
-use Rattle.files.specs.Contents.{wordsOf}
 use Rattle.fields.proofs.Passing.{and-both}
-use Rattle.encoded.specs.Encode.{Entry, SoundEntries, put}
-
-abbrev entryWordsOf : Listing → Entry → List ℕ
-entryWordsOf list e = wordsOf list (words (route (e .values))) (e .outside)
+use Rattle.encoded.specs.Encode.{Entry, SoundEntries, wordsListed, put, Unlisted}
 
 module _ (n columns mode : ℕ) (cs : List Component) (list : Listing) where
   -- what is listed later leaves (i, j) alone
@@ -25,7 +19,7 @@ module _ (n columns mode : ℕ) (cs : List Component) (list : Listing) where
       ap (put list i j es) (go (eqb i (e .row) && eqb j (e .column)) refl)
       ∙ put-after i j (e .row * 256 + e .column + 1) es ws (ok .1) (omega (arith, l, ok .0 .after))
     where
-      go : (b : Bool) → (eqb i (e .row) && eqb j (e .column)) ≡ b → cond b (entryWordsOf list e) ws ≡ ws
+      go : (b : Bool) → (eqb i (e .row) && eqb j (e .column)) ≡ b → cond b (wordsListed list e) ws ≡ ws
       go false q = refl
       go true q =
           let t = and-both (eqb i (e .row)) (eqb j (e .column)) q in
@@ -33,18 +27,14 @@ module _ (n columns mode : ℕ) (cs : List Component) (list : Listing) where
 
   -- at a listed pair stand the words of its entry
   pub put-listed : (low : ℕ) (xs : List Entry) (e : Entry) (ys : List Entry) (ws : List ℕ) → SoundEntries n columns mode cs list low (xs ++ (e ∷ ys))
-      → put list (e .row) (e .column) (xs ++ (e ∷ ys)) ws ≡ entryWordsOf list e
+      → put list (e .row) (e .column) (xs ++ (e ∷ ys)) ws ≡ wordsListed list e
   put-listed low [] e ys ws ok =
-      ap (put list (e .row) (e .column) ys) (own (e .row) (e .column) (entryWordsOf list e) ws)
-      ∙ put-after (e .row) (e .column) (e .row * 256 + e .column + 1) ys (entryWordsOf list e) (ok .1) (omega arith)
+      ap (put list (e .row) (e .column) ys) (own (e .row) (e .column) (wordsListed list e) ws)
+      ∙ put-after (e .row) (e .column) (e .row * 256 + e .column + 1) ys (wordsListed list e) (ok .1) (omega arith)
     where
       own : (i j : ℕ) (x y : List ℕ) → cond (eqb i i && eqb j j) x y ≡ x
       own i j x y = rw (eq-eqb i i refl, eq-eqb j j refl)
   put-listed low (x ∷ xs) e ys ws ok = put-listed (x .row * 256 + x .column + 1) xs e ys _ (ok .1)
-
-abbrev pub Unlisted : ℕ → ℕ → List Entry → Type 0
-Unlisted i j [] = Unit {0}
-Unlisted i j (e ∷ es) = ((eqb i (e .row) && eqb j (e .column)) ≡ false) × Unlisted i j es
 
 -- what is not listed is as it was: no route, or empty
 pub put-unlisted : (list : Listing) (i j : ℕ) (es : List Entry) (ws : List ℕ) → Unlisted i j es → put list i j es ws ≡ ws

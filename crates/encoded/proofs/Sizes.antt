@@ -1,23 +1,17 @@
 -- The numbers of a file that is taken are in their ranges, whatever its bytes are.
-use Prim.Native.Nat.{ℕ, suc, _≤_}
+use Prim.Native.Nat.{ℕ, suc}
 use mathlib.Core.Path.{_≡_, sym, ap, _∙_}
 use mathlib.Core.List.{List}
 use native.Mathlib.Omega.{arith}
 use Rattle.weights.specs.declared.Language.{Language}
-use Rattle.weights.specs.Sizes.{places, productTags}
+use Rattle.weights.specs.Sizes.{productTags}
 use Rattle.fields.specs.declared.Head.{Head}
 use Rattle.fields.specs.declared.HeadRead.the-variants.{Sound}
 use Rattle.fields.specs.Nested.{nothing}
 use Rattle.fields.proofs.Advancing.{advances}
 use Rattle.files.specs.File.{fileRead}
+use Rattle.encoded.specs.Taken.{InRanges}
 use Rattle.encoded.proofs.Taken.{head-at, counted-head, fields-at}
-
-pub record InRanges (h : Head) : Type 0 where
-  pub nodes : (1 ≤ h .n) × (h .n ≤ 16)
-  pub destinations : h .m ≤ 32
-  pub no-mode : h .m ≡ 0 → h .mode ≡ 0
-  pub some-mode : (h .m ≡ 0 → ⊥) → (1 ≤ h .mode) × (h .mode ≤ 3)
-  pub components : (1 ≤ h .language .count) × (h .language .count ≤ places)
 
 pub head-in-ranges : (s : List ℕ) (next : ℕ) (h : Head) → fileRead s ≡ Sound next h → InRanges h
 head-in-ranges s next h e =

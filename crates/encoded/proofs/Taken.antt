@@ -24,15 +24,16 @@ use Rattle.fields.specs.declared.HeadRead.the-variants.{Sound, Refused as Fault
 use Rattle.records.specs.declared.Listing.the-variants.{Arcs, Attachments}
 use Rattle.fields.specs.Bytes.{twoAt, fourAt}
 use Rattle.fields.specs.Nested.{nothing, languageAt}
-use Rattle.fields.specs.Header.{fieldCheck, modeCheck, fieldsCheck, headFrom, headRead}
-use Rattle.records.specs.Records.{listCheck, listEnd, bodyCheck}
-use Rattle.files.specs.File.{countRight, settled, withBody, fileRead}
+use Rattle.fields.specs.Header.{fieldCheck, modeFieldCheck, fieldsCheck, headFrom, headRead}
+use Rattle.records.specs.Records.{recordListCheck, listEnd, bodyCheck}
+use Rattle.files.specs.File.{countRight, headOnceChecked, withBody, fileRead}
 use Rattle.fields.proofs.Passing.{both-pass, unless-passes, and-both, field-passes}
 use Rattle.files.proofs.Storing.{checked-body}
-use Rattle.encoded.specs.Encode.{Problem, SoundEntries, SoundProblem, Nesting, nested, bytes2, languageBytes, listBytes, bodyBytes, encode, languageWith, headOf}
+use Rattle.encoded.specs.Encode.{Problem, SoundEntries, Nesting, nested, bytes2, languageBytes, listBytes, bodyBytes, encode, languageWith}
+use Rattle.encoded.specs.Taken.{AreBytes, Encoded}
 use Rattle.encoded.proofs.Here.{found-language, language-has, one-more-component}
 use Rattle.encoded.proofs.Entries.{Counted}
-use Rattle.encoded.proofs.TakenLanguage.{Bytes, one-more, two-more, two-small, language-of}
+use Rattle.encoded.proofs.TakenLanguage.{one-more, two-more, two-small, language-of}
 use Rattle.encoded.proofs.TakenLists.{list-of}
 
 never-sound : {X : Type 0} {r : Refusal} {next : ℕ} {h : Head} → Faulty r ≡ Sound next h → X
@@ -73,7 +74,7 @@ pub counted-head : (s : List ℕ) (next : ℕ) (h : Head) → fileRead s ≡ Sou
 unfolding fileRead
 counted-head s next h e = go (countRight s) (headRead s) refl refl e
   where
-    body : (at : ℕ) (k : Head) (c : Check) → settled at k c ≡ Sound next h → Sound at k ≡ Sound next h
+    body : (at : ℕ) (k : Head) (c : Check) → headOnceChecked at k c ≡ Sound next h → Sound at k ≡ Sound next h
     body at k Passed e = e
     body at k (Refused r) e = never-sound e
 
@@ -104,11 +105,11 @@ unfolding fieldsCheck
 fields-at s e =
     let a = both-pass (fieldCheck s 4 (Version 0 4) 1 1) _ e in
     let b = both-pass (fieldCheck s 5 (Size 0 5) 1 16) _ (a .1) in
-    let c = both-pass (fieldCheck s 6 (Size 0 6) 0 32) (modeCheck s) (b .1) in
+    let c = both-pass (fieldCheck s 6 (Size 0 6) 0 32) (modeFieldCheck s) (b .1) in
     let v = field-passes s 4 (Version 0 4) 1 1 (a .0) in
     let n = field-passes s 5 (Size 0 5) 1 16 (b .0) in
     let m = field-passes s 6 (Size 0 6) 0 32 (c .0) in
-    let z : modeCheck s ≡ Passed = c .1 in
+    let z : modeFieldCheck s ≡ Passed = c .1 in
     record {
       version = omega (arith, v .1, v .2);
       nodes = (n .1, n .2);
@@ -120,16 +121,7 @@ fields-at s e =
 
 -- ---- the whole file
 
--- the file is that of a sound problem, under some nesting of its products
-pub record Encoded (s : List ℕ) (h : Head) : Type 0 where
-  pub problem : Problem
-  pub sound : SoundProblem problem
-  pub nesting : Nesting
-  pub nests : nested nesting ≡ problem .language
-  pub bytes : s ≡ encode problem nesting
-  pub head : headOf problem ≡ h
-
-front : (s : List ℕ) (p : Problem) (t : Nesting) → Bytes s → countRight s ≡ true → drop 4 s ≡ bodyBytes p t → s ≡ encode p t
+front : (s : List ℕ) (p : Problem) (t : Nesting) → AreBytes s → countRight s ≡ true → drop 4 s ≡ bodyBytes p t → s ≡ encode p t
 unfolding encode
 front s p t by c b =
     let f = and-both (leb 4 (length s)) (eqb (fourAt s 0) (length s - 4)) c in
@@ -153,7 +145,7 @@ four-more s r =
     ∙ ap (λ (l : List ℕ). getD s 5 0 ∷ l) (one-more s 6 (omega arith) ∙ ap (λ (l : List ℕ). getD s 6 0 ∷ l) (one-more s 7 (omega arith))))
 
 -- Whatever is read without refusal is an encoding of a sound problem.
-pub decode : (s : List ℕ) → Bytes s → (next : ℕ) (h : Head) → fileRead s ≡ Sound next h → Encoded s h
+pub decode : (s : List ℕ) → AreBytes s → (next : ℕ) (h : Head) → fileRead s ≡ Sound next h → Encoded s h
 unfolding bodyCheck
 decode s by next h e =
     let c = counted-head s next h e in
@@ -166,8 +158,8 @@ decode s by next h e =
     sym (found-language (t .nesting) few) ∙ ap (λ (z : Found). z .language) (t .found) ∙ d .language-is in
     let has : componentsOf (h .language) ≡ nested (t .nesting) = ap componentsOf (sym same) ∙ language-has (nested (t .nesting)) few in
     let k : Counted h = record { count-is = ap length has ∙ ap (λ (z : Language). z .count) same } in
-    let g = both-pass (listCheck s h Arcs next) _ (checked-body s next h e) in
-    let o = both-pass (listCheck s h Attachments (listEnd s h Arcs next)) _ (g .1) in
+    let g = both-pass (recordListCheck s h Arcs next) _ (checked-body s next h e) in
+    let o = both-pass (recordListCheck s h Attachments (listEnd s h Arcs next)) _ (g .1) in
     let x = list-of s h k Arcs next by (g .0) in
     let y = list-of s h k Attachments (listEnd s h Arcs next) by (o .0) in
     let over : drop (listEnd s h Attachments (listEnd s h Arcs next)) s ≡ [] =

@@ -1,5 +1,5 @@
 -- Whatever the reader takes is an encoding: a language under some nesting.
-use Prim.Native.Nat.{ℕ, zero, suc, _+_, _-_, _*_, _/_, _%_, _≤_, _<_}
+use Prim.Native.Nat.{ℕ, zero, suc, _+_, _*_, _/_, _%_, _≤_, _<_}
 use mathlib.Core.Path.{_≡_, refl, sym, ap, _∙_}
 use mathlib.Core.List.{List, [], _∷_, _++_, append-assoc}
 use mathlib.Core.Bool.{true, false}
@@ -22,16 +22,13 @@ use Rattle.fields.specs.Bytes.{twoAt}
 use Rattle.fields.specs.Nested.{withComponent, withTag, distTag, widthTag, classTag, gainTag, productTag, componentRead, after, languageFrom}
 use Rattle.fields.proofs.Advancing.{by-test}
 use Rattle.encoded.specs.Encode.{Nesting, one, product, nested, bytes2, componentBytes, languageBytes}
-use Rattle.encoded.proofs.Here.{products, foundAfter, found-tags}
-
--- every element is a byte
-abbrev pub Bytes : List ℕ → Type 0
-Bytes s = (i : ℕ) → getD s i 0 ≤ 255
+use Rattle.encoded.specs.Taken.{AreBytes, foundAfter}
+use Rattle.encoded.proofs.Here.{products, found-tags}
 
 pub one-more : (s : List ℕ) (at : ℕ) → at < length s → drop at s ≡ getD s at 0 ∷ drop (at + 1) s
 one-more s at h = drop-cons s at 0 h ∙ ap (λ (z : ℕ). getD s at 0 ∷ drop z s) (sym (add-one at))
 
-pub two-more : (s : List ℕ) (at : ℕ) → Bytes s → at + 2 ≤ length s → drop at s ≡ bytes2 (twoAt s at) ++ drop (at + 2) s
+pub two-more : (s : List ℕ) (at : ℕ) → AreBytes s → at + 2 ≤ length s → drop at s ≡ bytes2 (twoAt s at) ++ drop (at + 2) s
 unfolding bytes2 twoAt
 two-more s at by h =
     let hi : getD s at 0 ≡ (getD s at 0 * 256 + getD s (at + 1) 0) / 256 = omega (arith, by (at + 1)) in
@@ -45,7 +42,7 @@ two-more s at by h =
     two : (x y u v : ℕ) (l : List ℕ) → x ≡ u → y ≡ v → x ∷ y ∷ l ≡ u ∷ v ∷ l
     two x y u v l e f = cc
 
-pub two-small : (s : List ℕ) (at : ℕ) → Bytes s → twoAt s at ≤ 65535
+pub two-small : (s : List ℕ) (at : ℕ) → AreBytes s → twoAt s at ≤ 65535
 unfolding twoAt
 two-small s at by = omega (arith, by at, by (at + 1))
 
@@ -63,7 +60,7 @@ pub record LanguageOf (s : List ℕ) (at : ℕ) (f : Found) (next : ℕ) (g : Fo
   pub few : f .tags + products nesting ≤ productTags
   pub into : next ≤ length s
 
-module _ (s : List ℕ) (by : Bytes s) (at : ℕ) (f : Found) (next : ℕ) (g : Found) (inside : at < length s) (low : f .tags ≤ productTags) where
+module _ (s : List ℕ) (by : AreBytes s) (at : ℕ) (f : Found) (next : ℕ) (g : Found) (inside : at < length s) (low : f .tags ≤ productTags) where
   -- a component, its bytes being there
   taken : (c : Component) (end : ℕ) → SoundLimit c → SmallLimit 65535 c → drop at s ≡ componentBytes c ++ drop end s → end ≤ length s → Taken end (withComponent f c) ≡ Taken next g
       → LanguageOf s at f next g
@@ -127,7 +124,7 @@ both s at f mid q next g five x y = record {
   into = y .into;
 }
 
-pub language-of : (fuel : ℕ) (s : List ℕ) (at : ℕ) (f : Found) (next : ℕ) (g : Found) → Bytes s → f .tags ≤ productTags → languageFrom fuel s at f ≡ Taken next g → LanguageOf s at f next g
+pub language-of : (fuel : ℕ) (s : List ℕ) (at : ℕ) (f : Found) (next : ℕ) (g : Found) → AreBytes s → f .tags ≤ productTags → languageFrom fuel s at f ≡ Taken next g → LanguageOf s at f next g
 unfolding languageFrom
 language-of zero s at f next g by low = λ e. never e
 language-of (suc fuel) s at f next g by low =

@@ -1,5 +1,5 @@
 -- Whatever the reader takes is an encoding: entries and lists.
-use Prim.Native.Nat.{ℕ, zero, suc, _+_, _-_, _*_, _≤_, _<_}
+use Prim.Native.Nat.{ℕ, zero, suc, _+_, _*_, _≤_, _<_}
 use mathlib.Core.Path.{_≡_, refl, sym, ap, _∙_, subst}
 use mathlib.Core.List.{List, [], _∷_, _++_, append-assoc}
 use mathlib.Core.Bool.{Bool, true, false, cond}
@@ -19,18 +19,19 @@ use Rattle.fields.specs.declared.Head.{Head}
 use Rattle.records.specs.declared.Listing.{Listing}
 use Rattle.records.specs.declared.Listing.the-variants.{Arcs, Attachments}
 use Rattle.fields.specs.Bytes.{twoAt}
-use Rattle.records.specs.Records.{recordLength, lengthOf, endsAt, endsCheck, valuesCheck, recordCheck, recordsCheck, listCheck, listEnd}
+use Rattle.records.specs.Records.{recordLength, lengthOf, endsAt, endsCheck, valuesCheck, recordCheck, recordsCheck, recordListCheck, listEnd}
 use Rattle.files.specs.Contents.{columns, valuesAt, outsideAt}
 use Rattle.records.specs.Parts.{InRange}
 use Rattle.fields.proofs.Passing.{both-pass, unless-passes}
 use Rattle.records.proofs.Listed.{record-ends}
 use Rattle.encoded.specs.Encode.{Entry, SoundValues, SoundOutside, noOutside, bytes2, valueBytes, outsideBytes, entryBytes, entriesBytes, listBytes}
+use Rattle.encoded.specs.Taken.{AreBytes}
 use Rattle.encoded.proofs.Entries.{SoundFor, AllSound, Counted}
-use Rattle.encoded.proofs.TakenLanguage.{Bytes, one-more, two-more, two-small}
+use Rattle.encoded.proofs.TakenLanguage.{one-more, two-more, two-small}
 
 -- ---- values
 
-values-of : (s : List ℕ) (at c : ℕ) → Bytes s → at + c * 2 ≤ length s → drop at s ≡ valueBytes (valuesAt s at c) ++ drop (at + c * 2) s
+values-of : (s : List ℕ) (at c : ℕ) → AreBytes s → at + c * 2 ≤ length s → drop at s ≡ valueBytes (valuesAt s at c) ++ drop (at + c * 2) s
 values-of s at zero by h = let z : at ≡ at + 0 * 2 = omega arith in ap (λ (k : ℕ). drop k s) z
 values-of s at (suc c) by h =
     let z : at + 2 + c * 2 ≡ at + suc c * 2 = omega arith in
@@ -54,7 +55,7 @@ outsideOf s h Attachments at = outsideAt s h at
 abbrev entryAt : List ℕ → Head → Listing → ℕ → Entry
 entryAt s h list at = record { row = getD s at 0; column = getD s (at + 1) 0; values = valuesAt s (at + 2) (h .language .count); outside = outsideOf s h list at }
 
-outside-of : (s : List ℕ) (h : Head) (list : Listing) (at : ℕ) → Bytes s → at + lengthOf h list ≤ length s
+outside-of : (s : List ℕ) (h : Head) (list : Listing) (at : ℕ) → AreBytes s → at + lengthOf h list ≤ length s
     → drop (at + 2 + h .language .count * 2) s ≡ outsideBytes list (h .mode) (outsideOf s h list at) ++ drop (at + lengthOf h list) s
 unfolding recordLength outsideAt
 outside-of s h Arcs at by room =
@@ -69,7 +70,7 @@ outside-of s h Attachments at by room = go (ltb (h .mode) 2) room
         let z : at + 2 + h .language .count * 2 + 2 ≡ at + (2 + h .language .count * 2 + 2) = omega arith in
         two-more s (at + 2 + h .language .count * 2) by (omega arith) ∙ ap (λ (k : ℕ). bytes2 (twoAt s (at + 2 + h .language .count * 2)) ++ drop k s) z
 
-outside-sound : (s : List ℕ) (h : Head) (list : Listing) (at : ℕ) → Bytes s → SoundOutside (noOutside list (h .mode)) (outsideOf s h list at)
+outside-sound : (s : List ℕ) (h : Head) (list : Listing) (at : ℕ) → AreBytes s → SoundOutside (noOutside list (h .mode)) (outsideOf s h list at)
 unfolding outsideAt
 outside-sound s h Arcs at by = refl
 outside-sound s h Attachments at by = go (ltb (h .mode) 2)
@@ -82,7 +83,7 @@ least : (h : Head) (list : Listing) → 2 + h .language .count * 2 ≤ lengthOf 
 unfolding recordLength
 least h list = omega arith
 
-entry-bytes : (s : List ℕ) (h : Head) (list : Listing) (at : ℕ) → Bytes s → at + lengthOf h list ≤ length s
+entry-bytes : (s : List ℕ) (h : Head) (list : Listing) (at : ℕ) → AreBytes s → at + lengthOf h list ≤ length s
     → drop at s ≡ entryBytes list (h .mode) (entryAt s h list at) ++ drop (at + lengthOf h list) s
 entry-bytes s h list at by room =
     let l = least h list in
@@ -104,7 +105,7 @@ pub record EntryOf (s : List ℕ) (h : Head) (list : Listing) (at low : ℕ) : T
   pub sound : SoundFor h list low (entryAt s h list at)
   pub into : at + lengthOf h list ≤ length s
 
-entry-of : (s : List ℕ) (h : Head) → Counted h → (list : Listing) (at low : ℕ) → Bytes s → recordCheck s h list at low ≡ Passed → EntryOf s h list at low
+entry-of : (s : List ℕ) (h : Head) → Counted h → (list : Listing) (at low : ℕ) → AreBytes s → recordCheck s h list at low ≡ Passed → EntryOf s h list at low
 unfolding recordCheck twoAt
 entry-of s h c list at low by e =
     let f = both-pass (unless (leb (at + lengthOf h list) (length s)) (Cut 0 at)) _ e in
@@ -136,7 +137,7 @@ key-is : (s : List ℕ) (h : Head) (list : Listing) (at : ℕ) → twoAt s at �
 unfolding twoAt
 key-is s h list at = refl
 
-entries-of : (s : List ℕ) (h : Head) → Counted h → (list : Listing) (count at low : ℕ) → Bytes s → recordsCheck s h list at low count ≡ Passed → EntriesOf s h list at low count
+entries-of : (s : List ℕ) (h : Head) → Counted h → (list : Listing) (count at low : ℕ) → AreBytes s → recordsCheck s h list at low count ≡ Passed → EntriesOf s h list at low count
 unfolding recordsCheck
 entries-of s h c list zero at low by e =
     let z : at ≡ at + 0 * lengthOf h list = omega (arith, zero-mul (lengthOf h list)) in
@@ -161,8 +162,8 @@ pub record ListOf (s : List ℕ) (h : Head) (list : Listing) (at : ℕ) : Type 0
   pub bytes : drop at s ≡ listBytes list (h .mode) entries ++ drop (listEnd s h list at) s
   pub sound : AllSound h list 0 entries
 
-pub list-of : (s : List ℕ) (h : Head) → Counted h → (list : Listing) (at : ℕ) → Bytes s → listCheck s h list at ≡ Passed → ListOf s h list at
-unfolding listCheck listEnd
+pub list-of : (s : List ℕ) (h : Head) → Counted h → (list : Listing) (at : ℕ) → AreBytes s → recordListCheck s h list at ≡ Passed → ListOf s h list at
+unfolding recordListCheck listEnd
 list-of s h c list at by e =
     let f = both-pass (unless (leb (at + 2) (length s)) (Cut 0 at)) _ e in
     let r = entries-of s h c list (twoAt s at) (at + 2) 0 by (f .1) in

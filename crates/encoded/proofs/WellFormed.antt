@@ -1,5 +1,5 @@
 -- What a read leaves is well formed: the language passes its check, each arc is a weight of it with sums to 65,535, each mapping entry is empty or a route with its t in range.
-use Prim.Native.Nat.{ℕ, zero, suc, _+_, _*_, _≤_, _<_}
+use Prim.Native.Nat.{ℕ, zero, suc, _+_, _*_, _<_}
 use mathlib.Core.Path.{_≡_, refl, sym, ap, _∙_, subst}
 use mathlib.Core.Bool.{Bool, true, false, cond}
 use mathlib.Core.List.{List, [], _∷_, _++_}
@@ -7,7 +7,7 @@ use native.Mathlib.Nat.{add-zero, zero-mul, suc-mul}
 use native.Mathlib.Omega.{arith}
 use borrow.Author.Tests.{leb-true}
 use lib.Dec.{ltb, leb}
-use lib.ListN.{length, take, drop, replicate}
+use lib.ListN.{length, take, drop}
 use Rattle.refusals.specs.declared.Refusal.{Refusal}
 use Rattle.refusals.specs.declared.Refusal.the-variants.{Bytes as Cut, NotAscending, Length}
 use Rattle.refusals.specs.declared.Check.the-variants.{Passed}
@@ -16,9 +16,9 @@ use Rattle.refusals.proofs.OneToOne.{told-not-done}
 use Rattle.weights.specs.declared.Component.{Component}
 use Rattle.weights.specs.declared.Component.the-variants.{Dist, Width, Class, Gain}
 use Rattle.weights.specs.declared.Language.{Language}
-use Rattle.weights.specs.Sizes.{weightWords, entryWords, ones, arcSum}
-use Rattle.weights.specs.Weights.{Weight, none, route, ValidValue, ValidValues, Sound as SoundLimits}
-use Rattle.weights.specs.Languages.{componentsOf, languageCheck}
+use Rattle.weights.specs.Sizes.{arcSum}
+use Rattle.weights.specs.Weights.{none, route, ValidValue, ValidValues, Sound as SoundLimits}
+use Rattle.weights.specs.Languages.{componentsOf}
 use Rattle.weights.specs.Words.{words, inRange, good, reading, isGood}
 use Rattle.weights.proofs.Checking.{few, count-in, limits-exact}
 use Rattle.weights.proofs.Readings.{SumsUpTo, NotOnes, reads-words}
@@ -29,17 +29,19 @@ use Rattle.records.specs.declared.Listing.{Listing}
 use Rattle.records.specs.declared.Listing.the-variants.{Arcs, Attachments}
 use Rattle.files.specs.declared.ReadAnswer.the-variants.{Done}
 use Rattle.fields.specs.Bytes.{twoAt}
-use Rattle.records.specs.Records.{lengthOf, endsAt, endsCheck, valuesCheck, recordCheck, recordsCheck, listCheck, listEnd, bodyCheck}
+use Rattle.records.specs.Records.{lengthOf, endsAt, endsCheck, valuesCheck, recordCheck, recordsCheck, recordListCheck, listEnd, bodyCheck}
 use Rattle.files.specs.File.{fileRead}
-use Rattle.files.specs.Contents.{wide, columns, sizeOf, valuesAt, recordWeight, outsideAt, recordWords, isAt, listedWords, tableWords, listOver}
-use Rattle.files.specs.Answers.{Row, rowOf, headRow, refusedRow, sized, arcsOver, mappingOver, ReadSays}
+use Rattle.files.specs.Contents.{wide, columns, sizeOf, valuesAt, recordWeight, outsideAt, recordWords, isAt, listedWords, listedTable, listOver}
+use Rattle.files.specs.Answers.{Row, readSaid, headRow, refusedRow, sized, arcsOver, mappingOver, ReadSays}
 use Rattle.fields.proofs.Passing.{both-pass, and-both}
 use Rattle.files.proofs.Storing.{listed-wide, checked-body}
 use Rattle.encoded.specs.Encode.{SoundValues, SoundOutside}
+use Rattle.encoded.specs.Taken.{AreBytes, Encoded, DoneMeans}
+use Rattle.encoded.specs.WellFormed.{EntryWell, empty, attached, WellFormed}
 use Rattle.encoded.proofs.Entries.{Counted}
-use Rattle.encoded.proofs.TakenLanguage.{Bytes, two-small}
+use Rattle.encoded.proofs.TakenLanguage.{two-small}
 use Rattle.encoded.proofs.TakenLists.{values-sound}
-use Rattle.encoded.proofs.Taken.{Encoded, decode}
+use Rattle.encoded.proofs.Taken.{decode}
 use Rattle.encoded.proofs.Here.{language-has}
 use Rattle.encoded.proofs.Cells.{entry-at}
 
@@ -65,12 +67,12 @@ values-sums (Width w ∷ cs) (v ∷ vs) h = values-sums cs vs (h .1)
 values-sums (Class k ∷ cs) (v ∷ vs) h = values-sums cs vs (h .1)
 values-sums (Gain ∷ cs) (v ∷ vs) h = (leb-true v arcSum (h .0), values-sums cs vs (h .1))
 
-values-apart : (s : List ℕ) (at c : ℕ) → Bytes s → NotOnes (route (valuesAt s at c))
+values-apart : (s : List ℕ) (at c : ℕ) → AreBytes s → NotOnes (route (valuesAt s at c))
 values-apart s at zero by = tt
 values-apart s at (suc c) by = omega (arith, two-small s at by)
 
 -- the words of a record that passes are read as its weight
-record-reads : (s : List ℕ) (h : Head) → Counted h → (at : ℕ) → Bytes s → valuesCheck s (componentsOf (h .language)) (at + 2) ≡ Passed
+record-reads : (s : List ℕ) (h : Head) → Counted h → (at : ℕ) → AreBytes s → valuesCheck s (componentsOf (h .language)) (at + 2) ≡ Passed
     → reading arcSum (componentsOf (h .language)) (words (recordWeight s h at)) ≡ good (recordWeight s h at)
 record-reads s h c at by e =
     let v = subst (λ (k : ℕ). SoundValues (componentsOf (h .language)) (valuesAt s (at + 2) k)) (c .count-is) (values-sound s (componentsOf (h .language)) (at + 2) e) in
@@ -95,8 +97,8 @@ records-values s h list (suc count) at low f (suc e) l =
     let q : at + suc e * lengthOf h list ≡ at + lengthOf h list + e * lengthOf h list = omega (arith, suc-mul e (lengthOf h list)) in
     rw q (records-values s h list count (at + lengthOf h list) (twoAt s at + 1) (both-pass (recordCheck s h list at low) _ f .1) e (omega arith))
 
-list-values : (s : List ℕ) (h : Head) (list : Listing) (at : ℕ) → listCheck s h list at ≡ Passed → ValuesPass s h list (at + 2) (twoAt s at)
-unfolding listCheck
+list-values : (s : List ℕ) (h : Head) (list : Listing) (at : ℕ) → recordListCheck s h list at ≡ Passed → ValuesPass s h list (at + 2) (twoAt s at)
+unfolding recordListCheck
 list-values s h list at f = records-values s h list (twoAt s at) (at + 2) 0 (both-pass (unless (leb (at + 2) (length s)) (Cut 0 at)) _ f .1)
 
 -- ---- the entries
@@ -105,7 +107,7 @@ none-reads : (cs : List Component) → isGood (reading arcSum cs (words none)) �
 unfolding words
 none-reads cs = refl
 
-arcs-read : (s : List ℕ) (h : Head) → Counted h → Bytes s → (first count i j : ℕ) → ValuesPass s h Arcs first count
+arcs-read : (s : List ℕ) (h : Head) → Counted h → AreBytes s → (first count i j : ℕ) → ValuesPass s h Arcs first count
     → isGood (reading arcSum (componentsOf (h .language)) (listedWords s h Arcs first count i j)) ≡ true
 unfolding listedWords ValuesPass
 arcs-read s h c by first zero i j ok = none-reads (componentsOf (h .language))
@@ -117,12 +119,7 @@ arcs-read s h c by first (suc count) i j ok =
     go true r = ap isGood (record-reads s h c (first + count * lengthOf h Arcs) by (ok count (omega arith)))
     go false r = r
 
--- an entry of a mapping: empty, or a route of the language with its t
-pub data EntryWell (mode : ℕ) (cs : List Component) (ws : List ℕ) : Type 0 where
-  empty : ws ≡ replicate entryWords ones → EntryWell mode cs ws
-  attached : (w : Weight) (t : ℕ) → ws ≡ words w ++ (t ∷ []) → reading arcSum cs (words w) ≡ good w → SoundOutside (ltb mode 2) t → EntryWell mode cs ws
-
-outside-fits : (s : List ℕ) (h : Head) (at : ℕ) → Bytes s → SoundOutside (ltb (h .mode) 2) (outsideAt s h at)
+outside-fits : (s : List ℕ) (h : Head) (at : ℕ) → AreBytes s → SoundOutside (ltb (h .mode) 2) (outsideAt s h at)
 unfolding outsideAt
 outside-fits s h at by = go (ltb (h .mode) 2)
   where
@@ -130,7 +127,7 @@ outside-fits s h at by = go (ltb (h .mode) 2)
     go true = refl
     go false = two-small s (at + 2 + h .language .count * 2) by
 
-mapping-reads : (s : List ℕ) (h : Head) → Counted h → Bytes s → (first count i j : ℕ) → ValuesPass s h Attachments first count
+mapping-reads : (s : List ℕ) (h : Head) → Counted h → AreBytes s → (first count i j : ℕ) → ValuesPass s h Attachments first count
     → EntryWell (h .mode) (componentsOf (h .language)) (listedWords s h Attachments first count i j)
 unfolding listedWords ValuesPass
 mapping-reads s h c by first zero i j ok = empty refl
@@ -146,26 +143,15 @@ mapping-reads s h c by first (suc count) i j ok =
 
 -- ---- an answer that is done
 
-pub record DoneMeans (s a m a′ m′ : List ℕ) (n k mode : ℕ) (l : Language) : Type 0 where
-  pub next : ℕ
-  pub head : Head
-  pub read : fileRead s ≡ Sound next head
-  pub n-is : head .n ≡ n
-  pub m-is : head .m ≡ k
-  pub mode-is : head .mode ≡ mode
-  pub language-is : head .language ≡ l
-  pub arcs-are : a′ ≡ listOver s head Arcs next a
-  pub mapping-is : m′ ≡ listOver s head Attachments (listEnd s head Arcs next) m
-
 pub done-means : (s a m a′ m′ : List ℕ) (n k mode : ℕ) (l : Language) → ReadSays s a m a′ m′ (Done n k mode l) → DoneMeans s a m a′ m′ n k mode l
 unfolding sized
 done-means s a m a′ m′ n k mode l w = go (ltb (length a) 1024) (ltb (length m) 2560) (fileRead s) refl (w .answer) (w .arcs-hold) (w .mapping-holds)
   where
-    refused : {X : Type 0} (r : Refusal) → rowOf (Done n k mode l) ≡ refusedRow r → X
+    refused : {X : Type 0} (r : Refusal) → readSaid (Done n k mode l) ≡ refusedRow r → X
     refused r e = absurd (told-not-done r (sym (ap (λ (x : Row). x .told) e)))
 
     go : (x y : Bool) (r : HeadRead) → fileRead s ≡ r
-        → rowOf (Done n k mode l) ≡ cond x (refusedRow (Length 1 0)) (cond y (refusedRow (Length 3 0)) (headRow r))
+        → readSaid (Done n k mode l) ≡ cond x (refusedRow (Length 1 0)) (cond y (refusedRow (Length 3 0)) (headRow r))
         → a′ ≡ cond x a (cond y a (arcsOver s r a)) → m′ ≡ cond x m (cond y m (mappingOver s r m)) → DoneMeans s a m a′ m′ n k mode l
     go true y r q e u v = refused (Length 1 0) e
     go false true r q e u v = refused (Length 3 0) e
@@ -184,23 +170,14 @@ done-means s a m a′ m′ n k mode l w = go (ltb (length a) 1024) (ltb (length 
 
 -- ---- the theorem
 
-pub record WellFormed (a′ m′ : List ℕ) (n k mode : ℕ) (l : Language) : Type 0 where
-  pub nodes : (1 ≤ n) × (n ≤ 16)
-  pub destinations : k ≤ 32
-  pub no-mode : k ≡ 0 → mode ≡ 0
-  pub some-mode : (k ≡ 0 → ⊥) → (1 ≤ mode) × (mode ≤ 3)
-  pub language-passes : languageCheck l ≡ Passed
-  pub arcs-well : (i j : ℕ) → i < n → j < n → isGood (reading arcSum (componentsOf l) (take weightWords (drop (i * (n * weightWords) + j * weightWords) a′))) ≡ true
-  pub mapping-well : (i d : ℕ) → i < n → d < k → EntryWell mode (componentsOf l) (take entryWords (drop (i * (k * entryWords) + d * entryWords) m′))
-
 table-entry : (s : List ℕ) (h : Head) (list : Listing) (first count i j : ℕ) (z : List ℕ) → i < h .n → j < columns h list
-    → take (wide list) (drop (i * (columns h list * wide list) + j * wide list) (tableWords s h list first count ++ z)) ≡ listedWords s h list first count i j
-unfolding tableWords
+    → take (wide list) (drop (i * (columns h list * wide list) + j * wide list) (listedTable s h list first count ++ z)) ≡ listedWords s h list first count i j
+unfolding listedTable
 table-entry s h list first count i j z hi hj =
     entry-at (wide list) (listedWords s h list first count) (listed-wide s h list first count) (h .n) (columns h list) i j z hi hj
 
 -- what a file that passes leaves, for its own head
-head-well : (s a m : List ℕ) → Bytes s → (next : ℕ) (h : Head) → fileRead s ≡ Sound next h
+head-well : (s a m : List ℕ) → AreBytes s → (next : ℕ) (h : Head) → fileRead s ≡ Sound next h
     → WellFormed (listOver s h Arcs next a) (listOver s h Attachments (listEnd s h Arcs next) m) (h .n) (h .m) (h .mode) (h .language)
 unfolding bodyCheck
 head-well s a m by next h e =
@@ -214,8 +191,8 @@ head-well s a m by next h e =
     let has : componentsOf (h .language) ≡ p .language = ap componentsOf (sym l-is) ∙ language-has (p .language) (ok .components .1) in
     let count : length (p .language) ≡ h .language .count = ap (λ (x : Language). x .count) l-is in
     let c : Counted h = record { count-is = ap length has ∙ count } in
-    let g = both-pass (listCheck s h Arcs next) _ (checked-body s next h e) in
-    let o = both-pass (listCheck s h Attachments (listEnd s h Arcs next)) _ (g .1) in
+    let g = both-pass (recordListCheck s h Arcs next) _ (checked-body s next h e) in
+    let o = both-pass (recordListCheck s h Attachments (listEnd s h Arcs next)) _ (g .1) in
     let x = list-values s h Arcs next (g .0) in
     let y = list-values s h Attachments (listEnd s h Arcs next) (o .0) in
     record {
@@ -233,7 +210,7 @@ head-well s a m by next h e =
     }
 
 -- After a read that is done, what the calls are given is well formed.
-pub read-well : (s a m a′ m′ : List ℕ) (n k mode : ℕ) (l : Language) → Bytes s → ReadSays s a m a′ m′ (Done n k mode l) → WellFormed a′ m′ n k mode l
+pub read-well : (s a m a′ m′ : List ℕ) (n k mode : ℕ) (l : Language) → AreBytes s → ReadSays s a m a′ m′ (Done n k mode l) → WellFormed a′ m′ n k mode l
 read-well s a m a′ m′ n k mode l by w =
     let d = done-means s a m a′ m′ n k mode l w in
     subst (λ (x : List ℕ). WellFormed x m′ n k mode l) (sym (d .arcs-are))
@@ -245,7 +222,7 @@ read-well s a m a′ m′ n k mode l by w =
     (head-well s a m by (d .next) (d .head) (d .read)))))))
 
 -- Whatever is read without refusal is the file of a sound problem, under some nesting of its products: the one that is given back.
-pub read-encoded : (s a m a′ m′ : List ℕ) (n k mode : ℕ) (l : Language) → Bytes s → ReadSays s a m a′ m′ (Done n k mode l)
+pub read-encoded : (s a m a′ m′ : List ℕ) (n k mode : ℕ) (l : Language) → AreBytes s → ReadSays s a m a′ m′ (Done n k mode l)
     → Encoded s (record { n = n; m = k; mode = mode; language = l })
 read-encoded s a m a′ m′ n k mode l by w =
     let d = done-means s a m a′ m′ n k mode l w in

@@ -21,15 +21,16 @@ use Rattle.files.specs.declared.ReadAnswer.{ReadAnswer}
 use Rattle.files.specs.declared.ReadAnswer.the-variants.{Done}
 use Rattle.fields.specs.Bytes.{twoAt, fourAt}
 use Rattle.fields.specs.Nested.{nothing}
-use Rattle.fields.specs.Header.{fieldCheck, modeCheck, fieldsCheck, headRead}
+use Rattle.fields.specs.Header.{fieldCheck, modeFieldCheck, fieldsCheck, headRead}
 use Rattle.records.specs.Records.{lengthOf, listEnd, bodyCheck}
 use Rattle.files.specs.File.{countRight, fileRead}
-use Rattle.files.specs.Contents.{columns, sizeOf, unlisted, listedWords, tableWords}
+use Rattle.files.specs.Contents.{columns, sizeOf, unlisted, listedWords, listedTable}
 use Rattle.files.specs.Answers.{sized, ReadSays}
 use Rattle.matrices.proofs.Blocks.{blocks-cong}
 use Rattle.files.proofs.Answering.{answer-one}
 use Rattle.encoded.specs.Encode.{Entry, Problem, SoundEntries, SoundProblem, Nesting, nested, bytes2, languageBytes, entriesBytes, listBytes, bodyBytes, encode, languageWith, headOf, put, tableOf}
-use Rattle.encoded.proofs.Here.{here, past, two-here, foundAfter, language-here, found-language, language-has, one-more-component}
+use Rattle.encoded.specs.Taken.{foundAfter, nextOf, GivenBack}
+use Rattle.encoded.proofs.Here.{here, past, two-here, language-here, found-language, language-has, one-more-component}
 use Rattle.encoded.proofs.Entries.{AllSound, Counted, list-here, words-here}
 
 field-ok : (s : List ℕ) (at : ℕ) (r : Refusal) (lo hi v : ℕ) → at < length s → getD s at 0 ≡ v → lo ≤ v → v ≤ hi → fieldCheck s at r lo hi ≡ Passed
@@ -42,8 +43,8 @@ none-listed s h list first i j = refl
 
 -- the table of a list that stands at an offset
 table-here : (s : List ℕ) (h : Head) → Counted h → (list : Listing) (es : List Entry) (at : ℕ) (l : List ℕ) → AllSound h list 0 es → drop at s ≡ listBytes list (h .mode) es ++ l
-    → tableWords s h list (at + 2) (twoAt s at) ≡ tableOf h list es
-unfolding tableWords tableOf
+    → listedTable s h list (at + 2) (twoAt s at) ≡ tableOf h list es
+unfolding listedTable tableOf
 table-here s h c list es at l ok q =
     let b = two-here s at (length es) (entriesBytes list (h .mode) es ++ l) (q ∙ append-assoc (bytes2 (length es)) (entriesBytes list (h .mode) es) l) in
     rw (b .is)
@@ -60,10 +61,7 @@ table-here s h c list es at l ok q =
         ∙ words-here s h c list i j (at + 2) es 0 0 l (rw z at room) ok (rw z at rest)
         ∙ ap (put list i j es) (none i j)
 
-abbrev nextOf : Nesting → ℕ
-nextOf t = 8 + length (languageBytes t)
-
-mode-ok : (p : Problem) → SoundProblem p → (s : List ℕ) → getD s 6 0 ≡ p .m → getD s 7 0 ≡ p .mode → 7 < length s → modeCheck s ≡ Passed
+mode-ok : (p : Problem) → SoundProblem p → (s : List ℕ) → getD s 6 0 ≡ p .m → getD s 7 0 ≡ p .mode → 7 < length s → modeFieldCheck s ≡ Passed
 mode-ok p ok s em eo r = rw em (go (eqb (p .m) 0) refl)
   where
     go : (b : Bool) → eqb (p .m) 0 ≡ b → cond b (fieldCheck s 7 (Size 0 7) 0 0) (fieldCheck s 7 (Size 0 7) 1 3) ≡ Passed
@@ -105,12 +103,6 @@ opened p ok t nests s e =
     }
 
 -- ---- the theorem
-
-pub record GivenBack (p : Problem) (t : Nesting) (s : List ℕ) : Type 0 where
-  pub checked : fileRead s ≡ Sound (nextOf t) (headOf p)
-  pub arcs-are : tableWords s (headOf p) Arcs (nextOf t + 2) (twoAt s (nextOf t)) ≡ tableOf (headOf p) Arcs (p .arcs)
-  pub mapping-is : tableWords s (headOf p) Attachments (listEnd s (headOf p) Arcs (nextOf t) + 2) (twoAt s (listEnd s (headOf p) Arcs (nextOf t)))
-      ≡ tableOf (headOf p) Attachments (p .attachments)
 
 pub given-back : (p : Problem) → SoundProblem p → (t : Nesting) → nested t ≡ p .language → (s : List ℕ) → s ≡ encode p t → GivenBack p t s
 unfolding fileRead bodyCheck

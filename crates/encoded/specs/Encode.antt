@@ -16,8 +16,8 @@ use Rattle.weights.specs.Words.{words, inRange}
 use Rattle.fields.specs.declared.Head.{Head}
 use Rattle.records.specs.declared.Listing.{Listing}
 use Rattle.records.specs.declared.Listing.the-variants.{Arcs, Attachments}
-use Rattle.fields.specs.Nested.{distTag, widthTag, classTag, gainTag, productTag, languageOf}
-use Rattle.files.specs.Contents.{columns, grid, wordsOf, unlisted}
+use Rattle.fields.specs.Nested.{distTag, widthTag, classTag, gainTag, productTag, languageOfPlaces}
+use Rattle.files.specs.Contents.{columns, grid, withOutside, unlisted}
 
 -- ---- problems
 
@@ -28,6 +28,7 @@ pub record Entry : Type 0 where
   pub values : List ℕ
   pub outside : ℕ
 
+-- what a file says: the numbers of the network, the language, and the two lists
 pub record Problem : Type 0 where
   pub n : ℕ
   pub m : ℕ
@@ -48,6 +49,7 @@ abbrev pub SoundOutside : Bool → ℕ → Type 0
 SoundOutside true t = t ≡ 0
 SoundOutside false t = t ≤ 65535
 
+-- the list has no t in this mode
 abbrev pub noOutside : Listing → ℕ → Bool
 noOutside Arcs mode = true
 noOutside Attachments mode = ltb mode 2
@@ -89,22 +91,27 @@ abbrev pub nested : Nesting → List Component
 nested (one c) = c ∷ []
 nested (product x y) = nested x ++ nested y
 
+-- a number in two bytes, the first the larger
 unfoldable pub bytes2 : ℕ → List ℕ
 bytes2 v = v / 256 ∷ v % 256 ∷ []
 
+-- a number in four bytes, the first the largest
 abbrev pub bytes4 : ℕ → List ℕ
 bytes4 v = bytes2 (v / 65536) ++ bytes2 (v % 65536)
 
+-- the tag of a component, and its limit
 abbrev pub componentBytes : Component → List ℕ
 componentBytes Dist = distTag ∷ []
 componentBytes (Width w) = widthTag ∷ bytes2 w
 componentBytes (Class c) = classTag ∷ bytes2 c
 componentBytes Gain = gainTag ∷ []
 
+-- a component, or the product tag and two languages
 abbrev pub languageBytes : Nesting → List ℕ
 languageBytes (one c) = componentBytes c
 languageBytes (product x y) = productTag ∷ (languageBytes x ++ languageBytes y)
 
+-- two bytes for each value
 abbrev pub valueBytes : List ℕ → List ℕ
 valueBytes [] = []
 valueBytes (v ∷ vs) = bytes2 v ++ valueBytes vs
@@ -114,9 +121,11 @@ abbrev pub outsideBytes : Listing → ℕ → ℕ → List ℕ
 outsideBytes Arcs mode t = []
 outsideBytes Attachments mode t = cond (ltb mode 2) [] (bytes2 t)
 
+-- the two ends, the values, and t
 abbrev pub entryBytes : Listing → ℕ → Entry → List ℕ
 entryBytes list mode e = e .row ∷ e .column ∷ (valueBytes (e .values) ++ outsideBytes list mode (e .outside))
 
+-- one entry after another
 abbrev pub entriesBytes : Listing → ℕ → List Entry → List ℕ
 entriesBytes list mode [] = []
 entriesBytes list mode (e ∷ es) = entryBytes list mode e ++ entriesBytes list mode es
@@ -136,6 +145,7 @@ encode p t = bytes4 (length (bodyBytes p t)) ++ bodyBytes p t
 
 -- ---- what the reader is to give back
 
+-- the component at place k, dist where there is none
 abbrev pub placeIn : List Component → ℕ → Component
 placeIn [] k = Dist
 placeIn (c ∷ cs) zero = c
@@ -143,16 +153,26 @@ placeIn (c ∷ cs) (suc k) = placeIn cs k
 
 -- the components as a language, its unused places dist
 abbrev pub languageWith : List Component → Language
-languageWith cs = languageOf (length cs) (placeIn cs 0) (placeIn cs 1) (placeIn cs 2) (placeIn cs 3)
+languageWith cs = languageOfPlaces (length cs) (placeIn cs 0) (placeIn cs 1) (placeIn cs 2) (placeIn cs 3)
 
+-- the head of a problem
 abbrev pub headOf : Problem → Head
 headOf p = record { n = p .n; m = p .m; mode = p .mode; language = languageWith (p .language) }
+
+-- the words of an entry: its weight's, and t after them in an attachment
+abbrev pub wordsListed : Listing → Entry → List ℕ
+wordsListed list e = withOutside list (words (route (e .values))) (e .outside)
 
 -- the words at (i, j): those of the entry for (i, j), or else what was there
 abbrev pub put : Listing → ℕ → ℕ → List Entry → List ℕ → List ℕ
 put list i j [] ws = ws
-put list i j (e ∷ es) ws = put list i j es (cond (eqb i (e .row) && eqb j (e .column)) (wordsOf list (words (route (e .values))) (e .outside)) ws)
+put list i j (e ∷ es) ws = put list i j es (cond (eqb i (e .row) && eqb j (e .column)) (wordsListed list e) ws)
 
 -- the words of a list's table: what isn't listed is no route, or empty
 unfoldable pub tableOf : Head → Listing → List Entry → List ℕ
 tableOf h list es = grid (h .n) (columns h list) (λ i j. put list i j es (unlisted list))
+
+-- no entry is for (i, j)
+abbrev pub Unlisted : ℕ → ℕ → List Entry → Type 0
+Unlisted i j [] = Unit {0}
+Unlisted i j (e ∷ es) = ((eqb i (e .row) && eqb j (e .column)) ≡ false) × Unlisted i j es

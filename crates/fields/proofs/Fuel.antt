@@ -14,21 +14,13 @@ use Rattle.fields.specs.declared.Found.{Found}
 use Rattle.fields.specs.declared.LanguageRead.{LanguageRead}
 use Rattle.fields.specs.declared.LanguageRead.the-variants.{Refused}
 use Rattle.fields.specs.Nested.{withTag, productTag, componentRead, after, languageFrom, languageAt}
+use Rattle.fields.specs.Fuel.{endingWith}
 use Rattle.fields.specs.Parts.{Onward}
 use Rattle.fields.proofs.Advancing.{advances, otherwise, after-same, enough}
 
 pub more-fuel : (k : ℕ) (s : List ℕ) (at : ℕ) (f : Found) → f .tags ≤ productTags → languageFrom (k + suc productTags) s at f ≡ languageAt s at f
 more-fuel zero s at f h = refl
 more-fuel (suc k) s at f h = rw suc-add (sym (enough (k + suc productTags) s at f h (omega arith)) ∙ more-fuel k s at f h)
-
--- the same definition with another answer at the fuel's end
-pub endingWith : (ℕ → Found → LanguageRead) → ℕ → List ℕ → ℕ → Found → LanguageRead
-endingWith x zero s at f = x at f
-endingWith x (suc fuel) s at f =
-    cond (leb (length s) at) (Refused (Bytes 0 at))
-    (cond (eqb (getD s at 0) productTag)
-    (cond (leb productTags (f .tags)) (Refused (BadCount 0 at)) (after (endingWith x fuel s (at + 1) (withTag f)) (endingWith x fuel s)))
-    (componentRead s at f))
 
 pub never-ends : (x : ℕ → Found → LanguageRead) (fuel : ℕ) (s : List ℕ) (at : ℕ) (f : Found) → f .tags ≤ productTags → productTags < fuel + f .tags
     → endingWith x fuel s at f ≡ languageFrom fuel s at f

@@ -13,7 +13,7 @@ use Rattle.refusals.specs.declared.Check.{Check}
 use Rattle.refusals.specs.declared.Check.the-variants.{Passed, Refused}
 use Rattle.refusals.specs.Checks.{unless, orElse}
 use Rattle.refusals.proofs.First.{passed-not}
-use Rattle.fields.specs.Header.{fieldCheck, modeCheck, fieldsCheck}
+use Rattle.fields.specs.Header.{fieldCheck, modeFieldCheck, fieldsCheck}
 
 pub both-pass : (x y : Check) → orElse x y ≡ Passed → (x ≡ Passed) × (y ≡ Passed)
 both-pass Passed y e = (refl, e)
@@ -44,5 +44,5 @@ unfolding fieldsCheck
 fields-small s e =
     let f = both-pass (fieldCheck s 4 (Version 0 4) 1 1) _ e in
     let g = both-pass (fieldCheck s 5 (Size 0 5) 1 16) _ (f .1) in
-    let h = both-pass (fieldCheck s 6 (Size 0 6) 0 32) (modeCheck s) (g .1) in
+    let h = both-pass (fieldCheck s 6 (Size 0 6) 0 32) (modeFieldCheck s) (g .1) in
     (field-passes s 5 (Size 0 5) 1 16 (g .0) .2, field-passes s 6 (Size 0 6) 0 32 (h .0) .2)

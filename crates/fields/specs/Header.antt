@@ -23,14 +23,15 @@ unfoldable pub fieldCheck : List ℕ → ℕ → Refusal → ℕ → ℕ → Che
 fieldCheck s at r lo hi = orElse (unless (ltb at (length s)) (Bytes 0 at)) (unless (leb lo (getD s at 0) && leb (getD s at 0) hi) r)
 
 -- the mode is 0 exactly when m is 0
-abbrev pub modeCheck : List ℕ → Check
-modeCheck s = cond (eqb (getD s 6 0) 0) (fieldCheck s 7 (Size 0 7) 0 0) (fieldCheck s 7 (Size 0 7) 1 3)
+abbrev pub modeFieldCheck : List ℕ → Check
+modeFieldCheck s = cond (eqb (getD s 6 0) 0) (fieldCheck s 7 (Size 0 7) 0 0) (fieldCheck s 7 (Size 0 7) 1 3)
 
 -- version 1, n 1..16, m 0..32, mode
 unfoldable pub fieldsCheck : List ℕ → Check
 fieldsCheck s =
-    orElse (fieldCheck s 4 (Version 0 4) 1 1) (orElse (fieldCheck s 5 (Size 0 5) 1 16) (orElse (fieldCheck s 6 (Size 0 6) 0 32) (modeCheck s)))
+    orElse (fieldCheck s 4 (Version 0 4) 1 1) (orElse (fieldCheck s 5 (Size 0 5) 1 16) (orElse (fieldCheck s 6 (Size 0 6) 0 32) (modeFieldCheck s)))
 
+-- the first refusal of the fields and the language; else the head, and the offset after the language
 abbrev pub headFrom : Check → List ℕ → LanguageRead → HeadRead
 headFrom (Refused r) s l = Faulty r
 headFrom Passed s (NotTaken r) = Faulty r

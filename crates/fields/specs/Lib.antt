@@ -1,4 +1,5 @@
 pub mod Bytes
 pub mod Nested
+pub mod Fuel
 pub mod Header
 pub mod Parts

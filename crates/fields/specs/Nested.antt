@@ -17,37 +17,43 @@ use Rattle.fields.specs.Bytes.{twoAt}
 
 -- ---- the tags
 
+-- a dist component
 abbrev pub distTag : ℕ
 distTag = 1
 
+-- a width component, its limit after the tag
 abbrev pub widthTag : ℕ
 widthTag = 2
 
+-- a class component, its limit after the tag
 abbrev pub classTag : ℕ
 classTag = 3
 
+-- a gain component
 abbrev pub gainTag : ℕ
 gainTag = 4
 
+-- two languages under a product
 abbrev pub productTag : ℕ
 productTag = 5
 
 -- ---- what has been found
 
-abbrev pub languageOf : ℕ → Component → Component → Component → Component → Language
-languageOf count first second third fourth = record { count = count; first = first; second = second; third = third; fourth = fourth }
+-- a language by its count and its four places
+abbrev pub languageOfPlaces : ℕ → Component → Component → Component → Component → Language
+languageOfPlaces count first second third fourth = record { count = count; first = first; second = second; third = third; fourth = fourth }
 
 -- no components, each place dist
 abbrev pub noLanguage : Language
-noLanguage = languageOf 0 Dist Dist Dist Dist
+noLanguage = languageOfPlaces 0 Dist Dist Dist Dist
 
 -- c comes in the first unused place; the fourth place takes any later one
 unfoldable pub added : Language → Component → Language
 added l c =
-    cond (eqb (l .count) 0) (languageOf (l .count + 1) c (l .second) (l .third) (l .fourth))
-    (cond (eqb (l .count) 1) (languageOf (l .count + 1) (l .first) c (l .third) (l .fourth))
-    (cond (eqb (l .count) 2) (languageOf (l .count + 1) (l .first) (l .second) c (l .fourth))
-    (languageOf (l .count + 1) (l .first) (l .second) (l .third) c)))
+    cond (eqb (l .count) 0) (languageOfPlaces (l .count + 1) c (l .second) (l .third) (l .fourth))
+    (cond (eqb (l .count) 1) (languageOfPlaces (l .count + 1) (l .first) c (l .third) (l .fourth))
+    (cond (eqb (l .count) 2) (languageOfPlaces (l .count + 1) (l .first) (l .second) c (l .fourth))
+    (languageOfPlaces (l .count + 1) (l .first) (l .second) (l .third) c)))
 
 -- nothing has been read
 abbrev pub nothing : Found
@@ -63,16 +69,23 @@ withTag f = record { tags = f .tags + 1; language = f .language }
 
 -- ---- reading
 
--- one component: its tag, and a limit of two bytes for width and class; a width limit is not 0
+-- a width, by its tag's offset: its limit is there, and is not 0
+abbrev pub widthRead : List ℕ → ℕ → Found → LanguageRead
+widthRead s at f =
+    cond (leb (length s) (at + 2)) (Refused (Bytes 0 (at + 1)))
+    (cond (eqb (twoAt s (at + 1)) 0) (Refused (BadComponent 0 (at + 1))) (Taken (at + 3) (withComponent f (Width (twoAt s (at + 1))))))
+
+-- a class, by its tag's offset: its limit is there
+abbrev pub classRead : List ℕ → ℕ → Found → LanguageRead
+classRead s at f = cond (leb (length s) (at + 2)) (Refused (Bytes 0 (at + 1))) (Taken (at + 3) (withComponent f (Class (twoAt s (at + 1)))))
+
+-- one component: its tag, and a limit of two bytes for width and class
 unfoldable pub componentRead : List ℕ → ℕ → Found → LanguageRead
 componentRead s at f =
     cond (eqb (getD s at 0) distTag) (Taken (at + 1) (withComponent f Dist))
     (cond (eqb (getD s at 0) gainTag) (Taken (at + 1) (withComponent f Gain))
-    (cond (eqb (getD s at 0) widthTag)
-    (cond (leb (length s) (at + 2)) (Refused (Bytes 0 (at + 1)))
-    (cond (eqb (twoAt s (at + 1)) 0) (Refused (BadComponent 0 (at + 1))) (Taken (at + 3) (withComponent f (Width (twoAt s (at + 1)))))))
-    (cond (eqb (getD s at 0) classTag)
-    (cond (leb (length s) (at + 2)) (Refused (Bytes 0 (at + 1))) (Taken (at + 3) (withComponent f (Class (twoAt s (at + 1))))))
+    (cond (eqb (getD s at 0) widthTag) (widthRead s at f)
+    (cond (eqb (getD s at 0) classTag) (classRead s at f)
     (Refused (BadComponent 0 at)))))
 
 -- what follows a language that was taken

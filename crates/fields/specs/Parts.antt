@@ -25,7 +25,7 @@ Reached at = at ≤ 1800000
 -- ---- the language
 
 -- a language begins: fewer components than tags, and an offset that these bound
-pub record Begun (at : ℕ) (f : Found) : Type 0 where
+pub record LanguageBegins (at : ℕ) (f : Found) : Type 0 where
   pub near : at ≤ 8 + f .tags + f .language .count * 3
   pub few : f .tags ≤ productTags
   pub fewer : f .language .count ≤ f .tags
@@ -39,12 +39,14 @@ pub record Onward (s : List ℕ) (at : ℕ) (f : Found) (next : ℕ) (g : Found)
   pub counted : g .language .count + f .tags ≡ f .language .count + 1 + g .tags
   pub near : next + f .tags + f .language .count * 3 ≤ at + g .tags + g .language .count * 3
 
+-- a reading that takes a language advances
 abbrev pub Advances : List ℕ → ℕ → Found → LanguageRead → Type 0
 Advances s at f (Taken next g) = Onward s at f next g
 Advances s at f (Refused r) = Unit {0}
 
 -- ---- the head
 
+-- the numbers of a head fit their buffers
 pub record SmallHead (h : Head) : Type 0 where
   pub nodes : h .n ≤ 16
   pub destinations : h .m ≤ 32

@@ -5,6 +5,7 @@ ghost use lib.ListN.{getD};
 ghost use Rattle.fields.specs.Bytes.{twoAt, fourAt};
 ghost use Rattle.fields.specs.Parts.{Near};
 
+// The byte at an offset.
 pub fn byte(file: &[u8], at: u32) -> u32
     ensures { λ r. ⌜ (r ≡ getD (now (file .entry)) at 0) × (r ≤ 255) ⌝ }
 {
@@ -15,6 +16,7 @@ pub fn byte(file: &[u8], at: u32) -> u32
     file[i] as u32
 }
 
+// The number in two bytes.
 pub fn two(file: &[u8], at: u32) -> u32
     requires { ⌜ Near at ⌝ }
     ensures { λ r. ⌜ (r ≡ twoAt (now (file .entry)) at) × (r ≤ 65535) ⌝ }
@@ -31,6 +33,7 @@ pub fn four(file: &[u8]) -> usize
     two(file, 0) as usize * 65536 + two(file, 2) as usize
 }
 
+// The limit of a width or a class.
 pub fn limit(file: &[u8], at: u32) -> u16
     requires { ⌜ Near at ⌝ }
     ensures { λ r. ⌜ r ≡ twoAt (now (file .entry)) at ⌝ }

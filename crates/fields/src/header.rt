@@ -7,22 +7,13 @@ use super::bytes::byte;
 use super::languages::language;
 use refusals::Check;
 use refusals::Refusal;
+use refusals::checks::or_else;
 use weights::Component;
 use weights::Language;
 ghost use mathlib.Core.Path.{_≡_};
-ghost use Rattle.refusals.specs.Checks.{orElse};
-ghost use Rattle.fields.specs.Header.{fieldCheck, modeCheck, fieldsCheck, headRead};
+ghost use Rattle.fields.specs.Nested.{nothing};
+ghost use Rattle.fields.specs.Header.{fieldCheck, modeFieldCheck, fieldsCheck, headRead};
 ghost use Rattle.fields.specs.Parts.{SmallHeadRead};
-
-// One check, and the next where it passes.
-pub fn or_else(x: Check, y: Check) -> Check
-    ensures { λ r. ⌜ r ≡ orElse x y ⌝ }
-{
-    match x {
-        Check::Passed => y,
-        Check::Refused(r) => Check::Refused(r),
-    }
-}
 
 // A field of one byte: it is there, and lies in lo..hi.
 fn field_check(file: &[u8], at: u32, r: Refusal, lo: u8, hi: u8) -> Check
@@ -46,8 +37,8 @@ fn field_check(file: &[u8], at: u32, r: Refusal, lo: u8, hi: u8) -> Check
 }
 
 // The mode, which is 0 exactly when m is 0.
-fn mode_check(file: &[u8]) -> Check
-    ensures { λ r. ⌜ r ≡ modeCheck (now (file .entry)) ⌝ }
+fn mode_field_check(file: &[u8]) -> Check
+    ensures { λ r. ⌜ r ≡ modeFieldCheck (now (file .entry)) ⌝ }
 {
     let wrong = Refusal::Size { which: 0, place: 7 };
     if byte(file, 6) == 0 {
@@ -56,14 +47,29 @@ fn mode_check(file: &[u8]) -> Check
     field_check(file, 7, wrong, 1, 3)
 }
 
+// Version, n, m and mode, each where those before it pass.
 fn fields_check(file: &[u8]) -> Check
     ensures { λ r. ⌜ r ≡ fieldsCheck (now (file .entry)) ⌝ }
 {
     let version = field_check(file, 4, Refusal::Version { which: 0, place: 4 }, 1, 1);
     let n = field_check(file, 5, Refusal::Size { which: 0, place: 5 }, 1, 16);
     let m = field_check(file, 6, Refusal::Size { which: 0, place: 6 }, 0, 32);
-    let mode = mode_check(file);
+    let mode = mode_field_check(file);
     or_else(version, or_else(n, or_else(m, mode)))
+}
+
+// Nothing of a language has been read.
+fn nothing() -> Found
+    ensures { λ r. ⌜ r ≡ nothing ⌝ }
+{
+    let language = Language {
+        count: 0,
+        first: Component::Dist,
+        second: Component::Dist,
+        third: Component::Dist,
+        fourth: Component::Dist,
+    };
+    Found { tags: 0, language }
 }
 
 // Version, n, m, mode and the language; not the count of bytes before them.
@@ -71,24 +77,10 @@ pub fn header(file: &[u8]) -> HeadRead
     ensures { λ r. ⌜ r ≡ headRead (now (file .entry)) ⌝ }
     ensures { λ r. ⌜ SmallHeadRead (now (file .entry)) r ⌝ }
 {
-    let nothing = Language {
-        count: 0,
-        first: Component::Dist,
-        second: Component::Dist,
-        third: Component::Dist,
-        fourth: Component::Dist,
-    };
     let n = byte(file, 5) as usize;
     let m = byte(file, 6) as usize;
     let mode = byte(file, 7);
-    let read = language(
-        file,
-        8,
-        Found {
-            tags: 0,
-            language: nothing,
-        },
-    );
+    let read = language(file, 8, nothing());
     let checked = fields_check(file);
     match checked {
         Check::Refused(r) => {

@@ -10,9 +10,10 @@ ghost use mathlib.Core.Path.{_≡_};
 ghost use Prim.Native.Nat.{_<_, _≤_};
 ghost use lib.ListN.{length};
 ghost use Rattle.weights.specs.Sizes.{places, productTags};
-ghost use Rattle.fields.specs.Nested.{languageOf, added, withComponent, withTag, componentRead, languageAt};
-ghost use Rattle.fields.specs.Parts.{Reached, Begun, Advances};
+ghost use Rattle.fields.specs.Nested.{languageOfPlaces, added, withComponent, withTag, widthRead, classRead, componentRead, languageAt};
+ghost use Rattle.fields.specs.Parts.{Reached, LanguageBegins, Advances};
 
+// The tags of a language in the file.
 const DIST_TAG: u8 = 1;
 
 const WIDTH_TAG: u8 = 2;
@@ -23,6 +24,7 @@ const GAIN_TAG: u8 = 4;
 
 const PRODUCT_TAG: u8 = 5;
 
+// A language by its count and its four places.
 fn made(
     count: u32,
     first: Component,
@@ -30,7 +32,7 @@ fn made(
     third: Component,
     fourth: Component,
 ) -> Language
-    ensures { λ r. ⌜ r ≡ languageOf count first second third fourth ⌝ }
+    ensures { λ r. ⌜ r ≡ languageOfPlaces count first second third fourth ⌝ }
 {
     Language {
         count,
@@ -59,6 +61,7 @@ fn added(l: Language, c: Component) -> Language
     }
 }
 
+// A component more has been found.
 fn with_component(f: Found, c: Component) -> Found
     requires { ⌜ f .language .count ≤ places ⌝ }
     ensures { λ r. ⌜ r ≡ withComponent f c ⌝ }
@@ -71,6 +74,7 @@ fn with_component(f: Found, c: Component) -> Found
     }
 }
 
+// A product tag more has been found.
 fn with_tag(f: Found) -> Found
     requires { ⌜ f .tags ≤ productTags ⌝ }
     ensures { λ r. ⌜ r ≡ withTag f ⌝ }
@@ -82,18 +86,59 @@ fn with_tag(f: Found) -> Found
     }
 }
 
+// What was found, and the offset after it.
 fn taken(next: u32, found: Found) -> LanguageRead
     ensures { λ r. ⌜ r ≡ LanguageRead.Taken next found ⌝ }
 {
     LanguageRead::Taken { next, found }
 }
 
+// Nothing was taken.
 fn refused(r: Refusal) -> LanguageRead
     ensures { λ q. ⌜ q ≡ LanguageRead.Refused r ⌝ }
 {
     LanguageRead::Refused(r)
 }
 
+// A width whose tag is at an offset: its limit is there, and is not 0.
+fn width(file: &[u8], at: u32, found: Found) -> LanguageRead
+    requires { ⌜ Reached at × (found .language .count ≤ places) ⌝ }
+    ensures { λ r. ⌜ r ≡ widthRead (now (file .entry)) at found ⌝ }
+{
+    let i = at as usize;
+    if file.len() <= i + 2 {
+        return refused(Refusal::Bytes {
+            which: 0,
+            place: at + 1,
+        });
+    }
+    let w = limit(file, at + 1);
+    if w == 0 {
+        return refused(Refusal::BadComponent {
+            which: 0,
+            place: at + 1,
+        });
+    }
+    taken(at + 3, with_component(found, Component::Width(w)))
+}
+
+// A class whose tag is at an offset: its limit is there.
+fn class(file: &[u8], at: u32, found: Found) -> LanguageRead
+    requires { ⌜ Reached at × (found .language .count ≤ places) ⌝ }
+    ensures { λ r. ⌜ r ≡ classRead (now (file .entry)) at found ⌝ }
+{
+    let i = at as usize;
+    if file.len() <= i + 2 {
+        return refused(Refusal::Bytes {
+            which: 0,
+            place: at + 1,
+        });
+    }
+    let k = limit(file, at + 1);
+    taken(at + 3, with_component(found, Component::Class(k)))
+}
+
+// One component: its tag, and a limit for width and class.
 fn component(file: &[u8], at: u32, found: Found) -> LanguageRead
     requires { ⌜ (at < length (now file)) × Reached at × (found .language .count ≤ places) ⌝ }
     ensures { λ r. ⌜ r ≡ componentRead (now (file .entry)) at found ⌝ }
@@ -107,30 +152,10 @@ fn component(file: &[u8], at: u32, found: Found) -> LanguageRead
         return taken(at + 1, with_component(found, Component::Gain));
     }
     if tag == WIDTH_TAG {
-        if file.len() <= i + 2 {
-            return refused(Refusal::Bytes {
-                which: 0,
-                place: at + 1,
-            });
-        }
-        let w = limit(file, at + 1);
-        if w == 0 {
-            return refused(Refusal::BadComponent {
-                which: 0,
-                place: at + 1,
-            });
-        }
-        return taken(at + 3, with_component(found, Component::Width(w)));
+        return width(file, at, found);
     }
     if tag == CLASS_TAG {
-        if file.len() <= i + 2 {
-            return refused(Refusal::Bytes {
-                which: 0,
-                place: at + 1,
-            });
-        }
-        let k = limit(file, at + 1);
-        return taken(at + 3, with_component(found, Component::Class(k)));
+        return class(file, at, found);
     }
     refused(Refusal::BadComponent {
         which: 0,
@@ -140,7 +165,7 @@ fn component(file: &[u8], at: u32, found: Found) -> LanguageRead
 
 // One language at an offset, after what has been found before it: a component, or a product of two languages.
 pub fn language(file: &[u8], at: u32, found: Found) -> LanguageRead
-    requires { ⌜ Begun at found ⌝ }
+    requires { ⌜ LanguageBegins at found ⌝ }
     ensures { λ r. ⌜ r ≡ languageAt (now (file .entry)) at found ⌝ }
     ensures { λ r. ⌜ Advances (now (file .entry)) at found r ⌝ }
 {

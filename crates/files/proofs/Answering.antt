@@ -18,7 +18,7 @@ use Rattle.files.specs.declared.ReadAnswer.the-variants.{Done, Refused}
 use Rattle.records.specs.Records.{listEnd}
 use Rattle.files.specs.File.{fileRead}
 use Rattle.files.specs.Contents.{sizeOf, listOver}
-use Rattle.files.specs.Answers.{Row, rowOf, sized, ReadSays}
+use Rattle.files.specs.Answers.{Row, readSaid, sized, ReadSays}
 use Rattle.fields.specs.Parts.{SmallHead}
 use Rattle.files.proofs.Tables.{product}
 
@@ -64,7 +64,7 @@ module _ (s a m : List ℕ) where
 -- ---- one answer
 
 -- two answers with one row are equal
-pub answer-one : (x y : ReadAnswer) → rowOf x ≡ rowOf y → x ≡ y
+pub answer-one : (x y : ReadAnswer) → readSaid x ≡ readSaid y → x ≡ y
 answer-one (Done n m mode l) (Done n′ m′ mode′ l′) e =
     let a : n ≡ n′ = ap (λ (r : Row). r .n) e in
     let b : m ≡ m′ = ap (λ (r : Row). r .m) e in

@@ -20,9 +20,9 @@ use Rattle.fields.specs.declared.HeadRead.the-variants.{Sound, Refused as Fault
 use Rattle.records.specs.declared.Listing.{Listing}
 use Rattle.records.specs.declared.Listing.the-variants.{Arcs, Attachments}
 use Rattle.records.specs.Records.{endsAt, lengthOf, bodyCheck}
-use Rattle.files.specs.File.{countRight, settled, withBody, fileRead}
+use Rattle.files.specs.File.{countRight, headOnceChecked, withBody, fileRead}
 use Rattle.fields.specs.Header.{headRead}
-use Rattle.files.specs.Contents.{grid, wide, columns, sizeOf, recordWords, recordWeight, outsideAt, wordsOf, unlisted, rowOf, columnOf, isAt, listedWords, tableWords}
+use Rattle.files.specs.Contents.{grid, wide, columns, sizeOf, recordWords, recordWeight, outsideAt, withOutside, unlisted, rowOfEnds, columnOfEnds, isAt, listedWords, listedTable}
 use Rattle.records.specs.Parts.{InRange}
 use Rattle.files.specs.Parts.{placeOf}
 use Rattle.files.proofs.Values.{sets-last}
@@ -38,7 +38,7 @@ pub checked-body : (s : List ℕ) (next : ℕ) (h : Head) → fileRead s ≡ Sou
 unfolding fileRead
 checked-body s next h e = go (countRight s) (headRead s) e
   where
-    body : (at : ℕ) (k : Head) (c : Check) → bodyCheck s k at ≡ c → settled at k c ≡ Sound next h → bodyCheck s h next ≡ Passed
+    body : (at : ℕ) (k : Head) (c : Check) → bodyCheck s k at ≡ c → headOnceChecked at k c ≡ Sound next h → bodyCheck s h next ≡ Passed
     body at k Passed f e =
         let i : at ≡ next = cc in
         let j : k ≡ h = cc in
@@ -56,7 +56,7 @@ checked-body s next h e = go (countRight s) (headRead s) e
 pub put-last : (w : Weight) (l : List ℕ) (n t : ℕ) → set (sets l n (words w)) (n + weightWords) t ≡ sets l n (words w ++ (t ∷ []))
 put-last w l n t = ap (λ (z : ℕ). set (sets l n (words w)) (n + z) t) (sym (length-words w)) ∙ sets-last (words w) l n t
 
-pub words-wide : (list : Listing) (ws : List ℕ) (t : ℕ) → length ws ≡ weightWords → length (wordsOf list ws t) ≡ wide list
+pub words-wide : (list : Listing) (ws : List ℕ) (t : ℕ) → length ws ≡ weightWords → length (withOutside list ws t) ≡ wide list
 words-wide Arcs ws t e = e
 words-wide Attachments ws t e = length-append ws (t ∷ []) ∙ omega (arith, e)
 
@@ -69,12 +69,12 @@ unlisted-ones Arcs = refl
 unlisted-ones Attachments = refl
 
 place-grid : (s : List ℕ) (h : Head) (list : Listing) (at : ℕ)
-    → placeOf h (endsAt s list at) ≡ rowOf (endsAt s list at) * (columns h list * wide list) + columnOf (endsAt s list at) * wide list
+    → placeOf h (endsAt s list at) ≡ rowOfEnds (endsAt s list at) * (columns h list * wide list) + columnOfEnds (endsAt s list at) * wide list
 place-grid s h Arcs at = refl
 place-grid s h Attachments at = refl
 
 inside : (s : List ℕ) (h : Head) (list : Listing) (at : ℕ) → InRange h (endsAt s list at)
-    → (rowOf (endsAt s list at) < h .n) × (columnOf (endsAt s list at) < columns h list)
+    → (rowOfEnds (endsAt s list at) < h .n) × (columnOfEnds (endsAt s list at) < columns h list)
 inside s h Arcs at r = r
 inside s h Attachments at r = r
 
@@ -86,8 +86,8 @@ room s h list at r =
     omega (
       arith,
       place-grid s h list at,
-      block-room (columns h list * wide list) (rowOf (endsAt s list at)) (h .n) (i .0),
-      block-room (wide list) (columnOf (endsAt s list at)) (columns h list) (i .1),
+      block-room (columns h list * wide list) (rowOfEnds (endsAt s list at)) (h .n) (i .0),
+      block-room (wide list) (columnOfEnds (endsAt s list at)) (columns h list) (i .1),
     )
 
 pub listed-wide : (s : List ℕ) (h : Head) (list : Listing) (first count i j : ℕ) → length (listedWords s h list first count i j) ≡ wide list
@@ -104,26 +104,26 @@ listed-wide s h list first (suc count) i j =
 -- ---- the table after some records
 
 pub record Stored (s : List ℕ) (h : Head) (list : Listing) (first count : ℕ) (r₀ r : List ℕ) : Type 0 where
-  pub holds : r ≡ tableWords s h list first count ++ drop (sizeOf h list) r₀
+  pub holds : r ≡ listedTable s h list first count ++ drop (sizeOf h list) r₀
   pub long : length r ≡ length r₀
 
-pub table-none : (s : List ℕ) (h : Head) (list : Listing) (first : ℕ) → replicate (sizeOf h list) ones ≡ tableWords s h list first 0
-unfolding sizeOf tableWords listedWords
+pub table-none : (s : List ℕ) (h : Head) (list : Listing) (first : ℕ) → replicate (sizeOf h list) ones ≡ listedTable s h list first 0
+unfolding sizeOf listedTable listedWords
 table-none s h list first =
     sym (grid-same (wide list) ones (h .n) (columns h list))
     ∙ ap (λ (ws : List ℕ). grid (h .n) (columns h list) (λ _ _. ws)) (sym (unlisted-ones list))
 
 pub table-more : (s : List ℕ) (h : Head) (list : Listing) (first count : ℕ) (rest : List ℕ)
     → InRange h (endsAt s list (first + count * lengthOf h list))
-    → sets (tableWords s h list first count ++ rest) (placeOf h (endsAt s list (first + count * lengthOf h list))) (recordWords s h list (first + count * lengthOf h list))
-    ≡ tableWords s h list first (suc count) ++ rest
-unfolding tableWords listedWords
+    → sets (listedTable s h list first count ++ rest) (placeOf h (endsAt s list (first + count * lengthOf h list))) (recordWords s h list (first + count * lengthOf h list))
+    ≡ listedTable s h list first (suc count) ++ rest
+unfolding listedTable listedWords
 table-more s h list first count rest r =
     let at : ℕ = first + count * lengthOf h list in
     let i = inside s h list at r in
     ap (λ (z : ℕ). sets (grid (h .n) (columns h list) (listedWords s h list first count) ++ rest) z (recordWords s h list at)) (place-grid s h list at)
     ∙ grid-put (wide list) (listedWords s h list first count) (listed-wide s h list first count) (h .n) (columns h list)
-    (rowOf (endsAt s list at)) (columnOf (endsAt s list at)) (recordWords s h list at) rest (record-wide s h list at) (i .0) (i .1)
+    (rowOfEnds (endsAt s list at)) (columnOfEnds (endsAt s list at)) (recordWords s h list at) rest (record-wide s h list at) (i .0) (i .1)
 
 -- one more record stored
 pub stored-more : (s : List ℕ) (h : Head) (list : Listing) (first count : ℕ) (r₀ r r′ : List ℕ) (at : ℕ)
@@ -138,7 +138,7 @@ stored-more s h list first count r₀ r r′ at st e i q =
           ∙ ap (λ (z : ℕ). sets r (placeOf h (endsAt s list z)) (recordWords s h list z)) e
           ∙ ap (λ (l : List ℕ). sets l (placeOf h (endsAt s list (first + count * lengthOf h list))) (recordWords s h list (first + count * lengthOf h list))) (st .holds)
           ∙ table-more s h list first count (drop (sizeOf h list) r₀) i′
-          ∙ ap (λ (z : ℕ). tableWords s h list first z ++ drop (sizeOf h list) r₀) (sym (add-one count));
+          ∙ ap (λ (z : ℕ). listedTable s h list first z ++ drop (sizeOf h list) r₀) (sym (add-one count));
       long = ap length q ∙ length-sets r _ (recordWords s h list at) ∙ st .long;
     }
 
@@ -149,10 +149,10 @@ module _ (s : List ℕ) (h : Head) (list : Listing) (first : ℕ) (r₀ rest : L
 
   pub stored-none : Stored s h list first 0 r₀ r₀
   stored-none = record {
-    holds = clean ∙ ap (λ (l : List ℕ). l ++ rest) (table-none s h list first) ∙ ap (λ (l : List ℕ). tableWords s h list first 0 ++ l) (sym behind);
+    holds = clean ∙ ap (λ (l : List ℕ). l ++ rest) (table-none s h list first) ∙ ap (λ (l : List ℕ). listedTable s h list first 0 ++ l) (sym behind);
     long = refl;
   }
 
-  pub stored-all : (e count : ℕ) (r : List ℕ) → Stored s h list first e r₀ r → e ≡ count → r ≡ tableWords s h list first count ++ rest
+  pub stored-all : (e count : ℕ) (r : List ℕ) → Stored s h list first e r₀ r → e ≡ count → r ≡ listedTable s h list first count ++ rest
   stored-all e count r st q =
-      st .holds ∙ ap (λ (l : List ℕ). tableWords s h list first e ++ l) behind ∙ ap (λ (z : ℕ). tableWords s h list first z ++ rest) q
+      st .holds ∙ ap (λ (l : List ℕ). listedTable s h list first e ++ l) behind ∙ ap (λ (z : ℕ). listedTable s h list first z ++ rest) q

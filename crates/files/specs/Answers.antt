@@ -34,9 +34,9 @@ abbrev pub refusedRow : Refusal → Row
 refusedRow r = record { told = told r; n = 0; m = 0; mode = 0; language = noLanguage }
 
 -- the row of an answer
-abbrev pub rowOf : ReadAnswer → Row
-rowOf (Done n m mode l) = record { told = done; n = n; m = m; mode = mode; language = l }
-rowOf (Refused r) = refusedRow r
+abbrev pub readSaid : ReadAnswer → Row
+readSaid (Done n m mode l) = record { told = done; n = n; m = m; mode = mode; language = l }
+readSaid (Refused r) = refusedRow r
 
 -- the row of what a file says
 abbrev pub headRow : HeadRead → Row
@@ -61,14 +61,16 @@ abbrev pub mappingOver : List ℕ → HeadRead → List ℕ → List ℕ
 mappingOver s (Sound next h) mapping = listOver s h Attachments (listEnd s h Arcs next) mapping
 mappingOver s (Faulty r) mapping = mapping
 
+-- what the arcs hold after the reader
 abbrev pub arcsAfter : List ℕ → List ℕ → List ℕ → List ℕ
 arcsAfter s arcs mapping = sized arcs mapping arcs arcs (arcsOver s (fileRead s) arcs)
 
+-- what the mapping holds after the reader
 abbrev pub mappingAfter : List ℕ → List ℕ → List ℕ → List ℕ
 mappingAfter s arcs mapping = sized arcs mapping mapping mapping (mappingOver s (fileRead s) mapping)
 
 -- The reader's promise: of a file and two buffers, the answer's row and what the buffers hold afterwards.
 pub record ReadSays (s arcs mapping arcs′ mapping′ : List ℕ) (r : ReadAnswer) : Type 0 where
-  pub answer : rowOf r ≡ fileRow s arcs mapping
+  pub answer : readSaid r ≡ fileRow s arcs mapping
   pub arcs-hold : arcs′ ≡ arcsAfter s arcs mapping
   pub mapping-holds : mapping′ ≡ mappingAfter s arcs mapping

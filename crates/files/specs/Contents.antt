@@ -28,6 +28,7 @@ abbrev pub wide : Listing → ℕ
 wide Arcs = weightWords
 wide Attachments = entryWords
 
+-- the columns of the table: nodes for arcs, destinations for attachments
 abbrev pub columns : Head → Listing → ℕ
 columns h Arcs = h .n
 columns h Attachments = h .m
@@ -51,13 +52,14 @@ recordWeight s h at = route (valuesAt s (at + 2) (h .language .count))
 unfoldable pub outsideAt : List ℕ → Head → ℕ → ℕ
 outsideAt s h at = cond (ltb (h .mode) 2) 0 (twoAt s (at + 2 + h .language .count * 2))
 
--- an arc has the words of its weight, a mapping entry t after them
-abbrev pub wordsOf : Listing → List ℕ → ℕ → List ℕ
-wordsOf Arcs ws t = ws
-wordsOf Attachments ws t = ws ++ (t ∷ [])
+-- an arc has the words of its weight, an attachment the outside number t after them
+abbrev pub withOutside : Listing → List ℕ → ℕ → List ℕ
+withOutside Arcs ws t = ws
+withOutside Attachments ws t = ws ++ (t ∷ [])
 
+-- the words that a record lists
 abbrev pub recordWords : List ℕ → Head → Listing → ℕ → List ℕ
-recordWords s h list at = wordsOf list (words (recordWeight s h at)) (outsideAt s h at)
+recordWords s h list at = withOutside list (words (recordWeight s h at)) (outsideAt s h at)
 
 -- what isn't listed is no route, or empty
 abbrev pub unlisted : Listing → List ℕ
@@ -66,16 +68,19 @@ unlisted Attachments = replicate entryWords ones
 
 -- ---- a list of records
 
-abbrev pub rowOf : Ends → ℕ
-rowOf (Arc from to) = from .0
-rowOf (Attachment node to) = node .0
+-- the row that a record is for: from, or the node
+abbrev pub rowOfEnds : Ends → ℕ
+rowOfEnds (Arc from to) = from .0
+rowOfEnds (Attachment node to) = node .0
 
-abbrev pub columnOf : Ends → ℕ
-columnOf (Arc from to) = to .0
-columnOf (Attachment node to) = to .0
+-- the column that a record is for: to, or the destination
+abbrev pub columnOfEnds : Ends → ℕ
+columnOfEnds (Arc from to) = to .0
+columnOfEnds (Attachment node to) = to .0
 
+-- the record is for (i, j)
 abbrev pub isAt : Ends → ℕ → ℕ → Bool
-isAt e i j = eqb i (rowOf e) && eqb j (columnOf e)
+isAt e i j = eqb i (rowOfEnds e) && eqb j (columnOfEnds e)
 
 -- the words at (i, j) by the first count records: those of the record for (i, j), if there is one
 unfoldable pub listedWords : List ℕ → Head → Listing → ℕ → ℕ → ℕ → ℕ → List ℕ
@@ -85,9 +90,10 @@ listedWords s h list first (suc count) i j =
     (recordWords s h list (first + count * lengthOf h list))
     (listedWords s h list first count i j)
 
-unfoldable pub tableWords : List ℕ → Head → Listing → ℕ → ℕ → List ℕ
-tableWords s h list first count = grid (h .n) (columns h list) (listedWords s h list first count)
+-- the words of the table that count records list, by rows
+unfoldable pub listedTable : List ℕ → Head → Listing → ℕ → ℕ → List ℕ
+listedTable s h list first count = grid (h .n) (columns h list) (listedWords s h list first count)
 
 -- A buffer after the list at an offset: the table, and what the buffer held after it.
 abbrev pub listOver : List ℕ → Head → Listing → ℕ → List ℕ → List ℕ
-listOver s h list at buffer = tableWords s h list (at + 2) (twoAt s at) ++ drop (sizeOf h list) buffer
+listOver s h list at buffer = listedTable s h list (at + 2) (twoAt s at) ++ drop (sizeOf h list) buffer

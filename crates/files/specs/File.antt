@@ -19,13 +19,15 @@ use Rattle.records.specs.Records.{bodyCheck}
 abbrev pub countRight : List ℕ → Bool
 countRight s = leb 4 (length s) && eqb (fourAt s 0) (length s - 4)
 
-abbrev pub settled : ℕ → Head → Check → HeadRead
-settled next h Passed = Sound next h
-settled next h (Refused r) = Faulty r
+-- the head where the check passes, else its refusal
+abbrev pub headOnceChecked : ℕ → Head → Check → HeadRead
+headOnceChecked next h Passed = Sound next h
+headOnceChecked next h (Refused r) = Faulty r
 
+-- the head that was read, once the body has passed too
 abbrev pub withBody : List ℕ → HeadRead → HeadRead
 withBody s (Faulty r) = Faulty r
-withBody s (Sound next h) = settled next h (bodyCheck s h next)
+withBody s (Sound next h) = headOnceChecked next h (bodyCheck s h next)
 
 -- The head and the offset of the arcs, or the first refusal in the order of the file.
 unfoldable pub fileRead : List ℕ → HeadRead

@@ -6,6 +6,7 @@ pub mod writing;
 use refusals::Refusal;
 use weights::Language;
 
+// What the reader answers: the numbers of the network and the language; or the first refusal.
 pub enum ReadAnswer {
     Done {
         n: u32,

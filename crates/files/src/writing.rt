@@ -14,16 +14,16 @@ use weights::Weight;
 ghost use mathlib.Core.Path.{_≡_};
 ghost use mathlib.Core.Bool.{cond};
 ghost use mathlib.Core.List.{_++_};
-ghost use Prim.Native.Nat.{_+_, _≤_};
+ghost use Prim.Native.Nat.{_+_, _*_, _≤_, _<_};
 ghost use lib.Dec.{ltb};
 ghost use lib.ListN.{length, drop, replicate};
 ghost use lib.Seq.{sets};
 ghost use Rattle.weights.specs.Sizes.{places, ones};
-ghost use Rattle.weights.specs.Languages.{weightOf};
+ghost use Rattle.weights.specs.Values.{weightOf};
 ghost use Rattle.weights.specs.Words.{words};
 ghost use Rattle.fields.specs.Bytes.{twoAt};
 ghost use Rattle.records.specs.Records.{endsAt, listEnd, bodyCheck};
-ghost use Rattle.files.specs.Contents.{wide, sizeOf, recordWeight, outsideAt, wordsOf, recordWords, tableWords, listOver};
+ghost use Rattle.files.specs.Contents.{wide, sizeOf, recordWeight, outsideAt, withOutside, recordWords, listedTable, listOver};
 ghost use Rattle.fields.specs.Parts.{Near, Reached, SmallHead};
 ghost use Rattle.records.specs.Parts.{InRange, Listed};
 ghost use Rattle.files.specs.Parts.{placeOf};
@@ -73,7 +73,7 @@ fn outside(file: &[u8], h: Head, at: u32) -> u32
 // Writes the words of an arc, or of an attachment with its t, from a place on.
 fn put(list: Listing, w: Weight, t: u32, at: usize, r: &mut [u32])
     requires { ⌜ at + wide list ≤ length (now r) ⌝ }
-    ensures { λ _. ⌜ now (r .exit) ≡ sets (now (r .entry)) at (wordsOf list (words (weightOf w)) t) ⌝ }
+    ensures { λ _. ⌜ now (r .exit) ≡ sets (now (r .entry)) at (withOutside list (words (weightOf w)) t) ⌝ }
 {
     match list {
         Listing::Arcs => {
@@ -86,6 +86,14 @@ fn put(list: Listing, w: Weight, t: u32, at: usize, r: &mut [u32])
     }
 }
 
+// Where entry (i, j) begins in a table of so many columns, each entry of so many words.
+fn place_in(i: usize, j: usize, columns: usize, words: usize) -> usize
+    requires { ⌜ (i < 16) × (j < 32) × (columns ≤ 32) × (words ≤ 5) ⌝ }
+    ensures { λ r. ⌜ r ≡ i * (columns * words) + j * words ⌝ }
+{
+    i * (columns * words) + j * words
+}
+
 // The place of a record's first word.
 fn place_of(h: Head, e: Ends) -> usize
     requires { ⌜ SmallHead h × InRange h e ⌝ }
@@ -93,10 +101,10 @@ fn place_of(h: Head, e: Ends) -> usize
 {
     match e {
         Ends::Arc(from, to) => {
-            return from.0 * (h.n * WEIGHT_WORDS) + to.0 * WEIGHT_WORDS;
+            return place_in(from.0, to.0, h.n, WEIGHT_WORDS);
         }
         Ends::Attachment(node, to) => {
-            return node.0 * (h.m * ENTRY_WORDS) + to.0 * ENTRY_WORDS;
+            return place_in(node.0, to.0, h.m, ENTRY_WORDS);
         }
     }
 }
@@ -143,7 +151,7 @@ fn clear(size: usize, r: &mut [u32])
 // Writes a whole list of records.
 fn fill(file: &[u8], h: Head, list: Listing, first: u32, count: u32, r: &mut [u32])
     requires { ⌜ SmallHead h × (first ≤ 900000) × (count ≤ 65535) × Listed (now file) h list first count × (sizeOf h list ≤ length (now r)) ⌝ }
-    ensures { λ _. ⌜ now (r .exit) ≡ tableWords (now (file .entry)) h list first count ++ drop (sizeOf h list) (now (r .entry)) ⌝ }
+    ensures { λ _. ⌜ now (r .exit) ≡ listedTable (now (file .entry)) h list first count ++ drop (sizeOf h list) (now (r .entry)) ⌝ }
 {
     clear(size_of(h, list), r);
     let l = h.language;

@@ -1,53 +1,57 @@
--- Each refusal of forward exactly in its case: a check's refusal where the check gives it and all before it pass; law C's where the
--- mode needs the law and it fails over all weights; 12 where R does not satisfy the routing equation, and so never where R is the best.
-use Prim.Native.Nat.{ℕ, suc, _*_}
+-- Each refusal of forward exactly in its case: a check's refusal where the check gives it and all before it pass, each in words; 12
+-- where R does not satisfy the routing equation, and so never where R is the best.
+use Prim.Native.Nat.{ℕ, zero, suc, _*_, _≤_}
 use mathlib.Core.Path.{_≡_, refl, sym, ap, subst, _∙_}
-use mathlib.Core.Bool.{Bool, true, false, not, cond, _&&_, _||_, false≢true}
+use mathlib.Core.Bool.{Bool, true, false, not, cond, _||_, false≢true}
 use mathlib.Core.List.{List, [], _∷_, _++_}
-use mathlib.Core.Logic.{_↔_}
+use mathlib.Core.Logic.{_⊎_, inl, inr, _↔_}
 use native.Mathlib.Omega.{arith}
-use borrow.Author.Tests.{eqb-true}
+use borrow.Author.Tests.{leb-true, le-leb, eqb-true, eq-eqb}
 use lib.Dec.{leb, eqb}
 use lib.ListN.{length}
 use Rattle.refusals.specs.declared.Refusal.{Refusal}
-use Rattle.refusals.specs.declared.Refusal.the-variants.{Size, BadComponent, BadCount, Length, Law, Equation}
+use Rattle.refusals.specs.declared.Refusal.the-variants.{Size, BadComponent, BadCount, Value, Length, Law, Equation}
 use Rattle.refusals.specs.declared.Check.{Check}
 use Rattle.refusals.specs.declared.Check.the-variants.{Passed, Refused}
-use Rattle.refusals.specs.Told.{row, told, done}
+use Rattle.refusals.specs.declared.Told.{Told}
+use Rattle.refusals.specs.Told.{row, told}
 use Rattle.refusals.specs.Checks.{unless, firstOf, checkTold, Pass, Gives}
-use Rattle.refusals.proofs.OneToOne.{told-one, told-not-done}
-use Rattle.refusals.proofs.Exactly.{told-check, Never, gives-only, OfNumber, unless-number}
+use Rattle.refusals.proofs.OneToOne.{told-not-done}
+use Rattle.refusals.proofs.Exactly.{told-check}
 use Rattle.refusals.proofs.First.{passed-not, first-exactly, pass-first}
 use Rattle.algebra.specs.Step.{Solves}
 use Rattle.weights.specs.declared.Component.{Component}
 use Rattle.weights.specs.declared.Language.{Language}
-use Rattle.weights.specs.Sizes.{weightWords, entryWords, arcSum, matrixSum}
+use Rattle.weights.specs.Sizes.{entryWords, arcSum, matrixSum}
 use Rattle.weights.specs.Weights.{Sound, language}
 use Rattle.weights.specs.Laws.{LawC, testD, testU, testC}
-use Rattle.weights.specs.Languages.{componentsOf, countCheck, limitCheck, soundLimit, limitsFrom}
-use Rattle.weights.proofs.Checking.{few, check-sound}
+use Rattle.weights.specs.Languages.{componentsOf, countCheck, limitCheck}
+use Rattle.weights.proofs.Checking.{few, check-sound, limits-exact}
 use Rattle.weights.proofs.Decided.{C-exact}
 use Rattle.weights.proofs.Ordering.{clash}
-use Rattle.matrices.specs.Buffers.{wellFormed, firstMalformed}
+use Rattle.matrices.specs.Buffers.{Square}
 use Rattle.matrices.specs.Steps.{solves}
 use Rattle.matrices.proofs.Every.{solves-exactly}
-use Rattle.matrices.proofs.Malformed.{refuses-first}
+use Rattle.matrices.proofs.Malformed.{check-formed, check-refuses}
 use Rattle.tables.specs.declared.Mode.{Mode}
 use Rattle.tables.specs.declared.Mode.the-variants.{Plain, Hot, Cold}
 use Rattle.tables.specs.declared.Chosen.{Chosen}
 use Rattle.tables.specs.declared.Chosen.the-variants.{Fits, Unfit}
 use Rattle.tables.specs.Entries.{modeFor, needsC}
-use Rattle.tables.specs.Tables.{wellFormedEntry}
+use Rattle.tables.specs.Tables.{wellFormedEntry, Sized}
 use Rattle.tables.proofs.Forwarded.{best-solves}
+use Rattle.tables.proofs.MalformedEntries as entries
 use Rattle.routes.specs.Checks.{nodesCheck, lengthCheck, lawDCheck, lawUCheck, arcsCheck, routesCheck}
 use Rattle.routes.specs.Calls.{matrixOf}
 use Rattle.routes.proofs.Bridge.{entry-valid}
-use Rattle.routes.proofs.Order.{goes-on, nodes-passed, length-passed, unless-passes}
-use Rattle.matrices.proofs.Malformed.{check-formed}
-use Rattle.forwarding.specs.Checks.{destinationsCheck, chosenCheck, chosenMode, modeCheck, tableLengthCheck, lawCCheck, mappingCheck, solvesCheck}
+use Rattle.routes.proofs.Order.{refused-one, goes-on, nodes-passed, length-passed, unless-passes}
+use Rattle.routes.proofs.OneTeller.{Teller, checksOf, ofBuffer, one, earlier, checkAt, onlyTells, given-where}
+use Rattle.routes.proofs.Cases.{then, alone, refuses-where, leb-exactly, eqb-exactly, nodes-case, count-case, limit-case, length-case, law-D-missing, law-U-missing, law-U-after, nodesTeller, countTeller, limitTeller, lengthTeller, lawDTeller, lawUTeller, malformed-tell, matrixTeller}
+use Rattle.forwarding.specs.Checks.{mostDestinations, destinationsCheck, chosenCheck, chosenMode, modeCheck, tableLengthCheck, lawCCheck, mappingCheck, solvesCheck}
 use Rattle.forwarding.specs.Calls.{modeMeant, forwardChecks, forwardCheck}
-use Rattle.forwarded.specs.Table.{HoldsBest}
-use Rattle.forwarded.specs.Exact.{beforeLawC, beforeEquation}
+use Rattle.forwarding.proofs.Order.{destinations-passed, table-length-passed}
+use Rattle.forwarded.specs.Table.{EveryRouteBest}
+use Rattle.forwarded.specs.Exact.{ModeFits, TableLong, beforeLaws, beforeLawC, beforeEquation, ForwardRefusals}
 
 -- ---- the call refuses x exactly when one of its checks gives x and all before it pass
 
@@ -56,44 +60,19 @@ forward-refuses l n m number a r s f x =
     let checks = forwardChecks l n m number a r s f in
     (λ e. first-exactly checks x .0 (told-check (firstOf checks) x .0 e), λ g. told-check (firstOf checks) x .1 (first-exactly checks x .1 g))
 
--- ---- a refusal that one check alone can give
+-- ---- what each check may tell
 
--- .. is given exactly where that check gives it and all before it pass
-only-here : (x : Refusal) (before : List Check) (c : Check) (after : List Check) → Never before x → Never after x → (firstOf (before ++ c ∷ after) ≡ Refused x) ↔ (Pass before × (c ≡ Refused x))
-only-here x before c after u v = (λ e. gives-only before c after x u v .0 (first-exactly (before ++ c ∷ after) x .0 e), λ h. first-exactly (before ++ c ∷ after) x .1 (gives-only before c after x u v .1 h))
+pub chosen-tells : (c : Chosen) (x : Refusal) → chosenCheck c ≡ Refused x → ofBuffer 3 3 (told x) ≡ true
+chosen-tells (Fits mode) x e = absurd (passed-not x e)
+chosen-tells Unfit x e = subst (λ (y : Refusal). ofBuffer 3 3 (told y) ≡ true) (refused-one e) refl
 
--- ---- the number that a check gives
-
-refused-one : (x y : Refusal) → Refused x ≡ Refused y → x ≡ y
-refused-one x y e = cc
-
-chosen-numbered : (c : Chosen) → OfNumber 3 (chosenCheck c)
-chosen-numbered (Fits mode) y e = absurd (passed-not y e)
-chosen-numbered Unfit y e = ap (λ (z : Refusal). told z .number) (sym (refused-one (Size 3 0) y e))
-
-limits-numbered : (i : ℕ) (cs : List Component) → OfNumber 4 (limitsFrom i cs)
-limits-numbered i [] y e = absurd (passed-not y e)
-limits-numbered i (c ∷ cs) y e = go (soundLimit c) e (limits-numbered (suc i) cs y)
-  where
-    go : (b : Bool) → cond b (limitsFrom (suc i) cs) (Refused (BadComponent 0 i)) ≡ Refused y → (limitsFrom (suc i) cs ≡ Refused y → told y .number ≡ 4) → told y .number ≡ 4
-    go true q ih = ih q
-    go false q ih = ap (λ (z : Refusal). told z .number) (sym (refused-one (BadComponent 0 i) y q))
-
-malformed-numbered : (test : ℕ → Bool) (size which c : ℕ) → OfNumber 6 (firstMalformed test size which 0 c)
-malformed-numbered test size which c y e = ap (λ (z : Refusal). told z .number) (refuses-first test size which c 0 y e .told)
-
--- another number, or another which
-other : {k : ℕ} {c : Check} (x : Refusal) → OfNumber k c → (told x .number ≡ k → ⊥) → c ≡ Refused x → ⊥
-other x h d e = d (h x e)
-
-unless-other : (b : Bool) (x y : Refusal) → (x ≡ y → ⊥) → unless b x ≡ Refused y → ⊥
-unless-other true x y d e = passed-not y e
-unless-other false x y d e = d (refused-one x y e)
-
-which-apart : (i j : ℕ) → (i ≡ j → ⊥) → Law i 0 ≡ Law j 0 → ⊥
-which-apart i j d e = d (ap (λ (z : Refusal). told z .which) e)
-
--- ---- the checks before law C's, and before 12
+-- a number from 1 to 3
+three-ways : (k : ℕ) → 1 ≤ k → k ≤ 3 → (k ≡ 1) ⊎ (k ≡ 2) ⊎ (k ≡ 3)
+three-ways zero h i = absurd (omega arith)
+three-ways (suc zero) h i = inl refl
+three-ways (suc (suc zero)) h i = inr (inl refl)
+three-ways (suc (suc (suc zero))) h i = inr (inr refl)
+three-ways (suc (suc (suc (suc k)))) h i = absurd (omega arith)
 
 module _ (l : Language) (n m number : ℕ) (a r s f : List ℕ) where
   abbrev cs : List Component
@@ -102,47 +81,53 @@ module _ (l : Language) (n m number : ℕ) (a r s f : List ℕ) where
   abbrev mode : Mode
   mode = modeMeant l m number
 
-  -- the checks of sizes, language and lengths, and then others, never give a refusal with another number
-  sizes-never : (x : Refusal) → (told x .number ≡ 3 → ⊥) → (told x .number ≡ 5 → ⊥) → (told x .number ≡ 4 → ⊥) → (told x .number ≡ 9 → ⊥) → (rest : List Check) → Never rest x
-      → Never (nodesCheck n ∷ destinationsCheck m ∷ modeCheck cs m number ∷ countCheck l ∷ limitCheck l ∷ lengthCheck 1 n a ∷ lengthCheck 2 n r ∷ tableLengthCheck 3 n m s ∷ tableLengthCheck 4 n m f ∷ rest) x
-  sizes-never x d3 d5 d4 d9 rest h = (
-    other x (unless-number (leb 1 n && leb n 16) (Size 1 0)) d3,
-    (
-      other x (unless-number (leb m 32) (Size 2 0)) d3,
-      (
-        other x (chosen-numbered (modeFor cs m number)) d3,
-        (
-          other x (unless-number (leb 1 (l .count) && leb (l .count) 4) (BadCount 0 0)) d5,
-          (
-            other x (limits-numbered 0 cs) d4,
-            (
-              other x (unless-number (eqb (length a) (n * (n * weightWords))) (Length 1 0)) d9,
-              (
-                other x (unless-number (eqb (length r) (n * (n * weightWords))) (Length 2 0)) d9,
-                (
-                  other x (unless-number (eqb (length s) (n * (m * entryWords))) (Length 3 0)) d9,
-                  (other x (unless-number (eqb (length f) (n * (m * entryWords))) (Length 4 0)) d9, h),
-                ),
-              ),
-            ),
-          ),
-        ),
-      ),
-    ),
-  )
+  abbrev tellers : List Teller
+  tellers =
+      nodesTeller n ∷ one (leb m mostDestinations) (Size 2 0) ∷ record { check = modeCheck cs m number; may = ofBuffer 3 3; tells = chosen-tells (modeFor cs m number) }
+      ∷ countTeller l ∷ limitTeller l ∷ lengthTeller 1 n a ∷ lengthTeller 2 n r
+      ∷ one (eqb (length s) (n * (m * entryWords))) (Length 3 0) ∷ one (eqb (length f) (n * (m * entryWords))) (Length 4 0)
+      ∷ lawDTeller cs ∷ lawUTeller cs ∷ one (not (needsC mode) || testC cs) (Law 3 0)
+      ∷ matrixTeller 1 arcSum cs n a ∷ matrixTeller 2 matrixSum cs n r
+      ∷ record { check = mappingCheck mode cs n m s; may = ofBuffer 6 3; tells = malformed-tell (wellFormedEntry mode arcSum cs s) entryWords 3 (n * m) }
+      ∷ one (solves cs n (matrixOf l n a) (matrixOf l n r)) (Equation 2 0) ∷ []
 
-  entries-never : (x : Refusal) → (told x .number ≡ 6 → ⊥) → (rest : List Check) → Never rest x → Never (arcsCheck cs n a ∷ routesCheck cs n r ∷ mappingCheck mode cs n m s ∷ rest) x
-  entries-never x d6 rest h = (
-    other x (malformed-numbered (wellFormed arcSum cs a) weightWords 1 (n * n)) d6,
-    (
-      other x (malformed-numbered (wellFormed matrixSum cs r) weightWords 2 (n * n)) d6,
-      (other x (malformed-numbered (wellFormedEntry mode arcSum cs s) entryWords 3 (n * m)) d6, h),
-    ),
-  )
+  abbrev answer : Told
+  answer = checkTold (forwardCheck l n m number a r s f)
 
-  -- the language's limits are sound once 5 and 4 pass
-  before-sound : Pass (beforeLawC l n m number a r s f) → Sound cs
-  before-sound p = check-sound l (pass-first (countCheck l ∷ limitCheck l ∷ []) (p .1 .1 .1 .0, (p .1 .1 .1 .1 .0, tt)))
+  -- refusal x exactly where check k refuses it in its case and those before it pass
+  exactly-at : (k : ℕ) (x : Refusal) → onlyTells k (told x) tellers ≡ true → {P : Type 0} → (Pass (checksOf (earlier k tellers)) → (checkAt k tellers ≡ Refused x) ↔ P) → (answer ≡ told x) ↔ (Pass (checksOf (earlier k tellers)) × P)
+  exactly-at k x only h = then (forward-refuses l n m number a r s f x) (given-where k tellers x only h)
+
+  -- ---- 3, which 3
+
+  -- a mode's number fits exactly where it is 1, 2 or 3 and m is not 0
+  mode-case : (modeCheck cs m number ≡ Refused (Size 3 0)) ↔ (ModeFits m number → ⊥)
+  mode-case = (there (leb 1 m) refl (eqb number 1) refl (eqb number 2) refl (eqb number 3) refl, back (leb 1 m) refl (eqb number 1) refl (eqb number 2) refl (eqb number 3) refl)
+    where
+      neither : eqb number 1 ≡ false → eqb number 2 ≡ false → eqb number 3 ≡ false → (number ≡ 1) ⊎ (number ≡ 2) ⊎ (number ≡ 3) → ⊥
+      neither p q r (inl e) = clash (eqb number 1) (eq-eqb number 1 e) p
+      neither p q r (inr (inl e)) = clash (eqb number 2) (eq-eqb number 2 e) q
+      neither p q r (inr (inr e)) = clash (eqb number 3) (eq-eqb number 3 e) r
+
+      there : (b : Bool) → leb 1 m ≡ b → (x : Bool) → eqb number 1 ≡ x → (y : Bool) → eqb number 2 ≡ y → (z : Bool) → eqb number 3 ≡ z
+          → chosenCheck (cond b (cond x (Fits Plain) (cond y (Fits Hot) (cond z (Fits Cold) Unfit))) Unfit) ≡ Refused (Size 3 0) → ModeFits m number → ⊥
+      there false o x p y q z r e (h, i, j) = clash (leb 1 m) (le-leb 1 m h) o
+      there true o true p y q z r e fits = passed-not (Size 3 0) e
+      there true o false p true q z r e fits = passed-not (Size 3 0) e
+      there true o false p false q true r e fits = passed-not (Size 3 0) e
+      there true o false p false q false r e (h, i, j) = neither p q r (three-ways number i j)
+
+      back : (b : Bool) → leb 1 m ≡ b → (x : Bool) → eqb number 1 ≡ x → (y : Bool) → eqb number 2 ≡ y → (z : Bool) → eqb number 3 ≡ z
+          → (ModeFits m number → ⊥) → chosenCheck (cond b (cond x (Fits Plain) (cond y (Fits Hot) (cond z (Fits Cold) Unfit))) Unfit) ≡ Refused (Size 3 0)
+      back false o x p y q z r g = refl
+      back true o true p y q z r g = let e = eqb-true number 1 p in absurd (g (leb-true 1 m o, omega arith, omega arith))
+      back true o false p true q z r g = let e = eqb-true number 2 q in absurd (g (leb-true 1 m o, omega arith, omega arith))
+      back true o false p false q true r g = let e = eqb-true number 3 r in absurd (g (leb-true 1 m o, omega arith, omega arith))
+      back true o false p false q false r g = refl
+
+  -- m 0 is told as a mode that does not fit
+  pub no-destinations : nodesCheck n ≡ Passed → checkTold (forwardCheck l n 0 number a r s f) ≡ row 3 3 0
+  no-destinations e = ap checkTold (goes-on {d = Refused (Size 3 0)} e refl)
 
   -- ---- 10, which 3
 
@@ -164,17 +149,8 @@ module _ (l : Language) (n m number : ℕ) (a r s f : List ℕ) where
   -- 10 3 0 exactly where all checks before it pass, the mode needs law C, and law C fails over all weights.
   pub law-C-refused : (checkTold (forwardCheck l n m number a r s f) ≡ row 10 3 0) ↔ (Pass (beforeLawC l n m number a r s f) × (needsC mode ≡ true) × (LawC cs → ⊥))
   law-C-refused =
-      let exactly = only-here (Law 3 0) (beforeLawC l n m number a r s f) (lawCCheck mode cs) (arcsCheck cs n a ∷ routesCheck cs n r ∷ mappingCheck mode cs n m s ∷ solvesCheck cs n a r ∷ []) before after in (
-        λ e. let g = exactly .0 (told-check (forwardCheck l n m number a r s f) (Law 3 0) .0 e) in let h = law-C-missing (before-sound (g .0)) .0 (g .1) in (g .0, h .0, h .1),
-        λ (p, h, g). told-check (forwardCheck l n m number a r s f) (Law 3 0) .1 (exactly .1 (p, law-C-missing (before-sound p) .1 (h, g))),
-      )
-    where
-      before : Never (beforeLawC l n m number a r s f) (Law 3 0)
-      before = sizes-never (Law 3 0) (λ e. omega arith) (λ e. omega arith) (λ e. omega arith) (λ e. omega arith) (lawDCheck cs ∷ lawUCheck cs ∷ [])
-          (unless-other (testD cs) (Law 1 0) (Law 3 0) (which-apart 1 3 (λ e. omega arith)), (unless-other (testU cs) (Law 2 0) (Law 3 0) (which-apart 2 3 (λ e. omega arith)), tt))
-
-      after : Never (arcsCheck cs n a ∷ routesCheck cs n r ∷ mappingCheck mode cs n m s ∷ solvesCheck cs n a r ∷ []) (Law 3 0)
-      after = entries-never (Law 3 0) (λ e. omega arith) (solvesCheck cs n a r ∷ []) (other (Law 3 0) (unless-number (solves cs n (matrixOf l n a) (matrixOf l n r)) (Equation 2 0)) (λ e. omega arith), tt)
+      let exactly = exactly-at 11 (Law 3 0) refl (λ p. law-C-missing (limits-exact cs .0 (p .1 .1 .1 .1 .0))) in
+      (λ e. let g = exactly .0 e in (g .0, g .1 .0, g .1 .1), λ (p, h, g). exactly .1 (p, (h, g)))
 
   -- among numbers that fit, 2 alone means a mode that needs law C
   hot-is-two : modeCheck cs m number ≡ Passed → (needsC mode ≡ true) ↔ (number ≡ 2)
@@ -203,39 +179,12 @@ module _ (l : Language) (n m number : ℕ) (a r s f : List ℕ) where
 
   -- ---- 12
 
-  solves-missing : (solvesCheck cs n a r ≡ Refused (Equation 2 0)) ↔ (Solves (language cs) n (matrixOf l n a) (matrixOf l n r) → ⊥)
-  solves-missing = (λ e. there (solves cs n (matrixOf l n a) (matrixOf l n r)) refl e, back (solves cs n (matrixOf l n a) (matrixOf l n r)) refl)
-    where
-      there : (b : Bool) → solves cs n (matrixOf l n a) (matrixOf l n r) ≡ b → unless b (Equation 2 0) ≡ Refused (Equation 2 0) → Solves (language cs) n (matrixOf l n a) (matrixOf l n r) → ⊥
-      there true q e g = passed-not (Equation 2 0) e
-      there false q e g = clash (solves cs n (matrixOf l n a) (matrixOf l n r)) (solves-exactly cs n (matrixOf l n a) (matrixOf l n r) .1 g) q
-
-      back : (b : Bool) → solves cs n (matrixOf l n a) (matrixOf l n r) ≡ b → (Solves (language cs) n (matrixOf l n a) (matrixOf l n r) → ⊥) → solvesCheck cs n a r ≡ Refused (Equation 2 0)
-      back true q g = absurd (g (solves-exactly cs n (matrixOf l n a) (matrixOf l n r) .0 q))
-      back false q g = ap (λ (b : Bool). unless b (Equation 2 0)) q
-
   -- 12 2 0 exactly where all other checks pass and R does not satisfy R = (A join R) best fresh.
   pub equation-refused : (checkTold (forwardCheck l n m number a r s f) ≡ row 12 2 0) ↔ (Pass (beforeEquation l n m number a r s f) × (Solves (language cs) n (matrixOf l n a) (matrixOf l n r) → ⊥))
-  equation-refused =
-      let exactly = only-here (Equation 2 0) (beforeEquation l n m number a r s f) (solvesCheck cs n a r) [] before tt in (
-        λ e. let g = exactly .0 (told-check (forwardCheck l n m number a r s f) (Equation 2 0) .0 e) in (g .0, solves-missing .0 (g .1)),
-        λ (p, h). told-check (forwardCheck l n m number a r s f) (Equation 2 0) .1 (exactly .1 (p, solves-missing .1 h)),
-      )
-    where
-      before : Never (beforeEquation l n m number a r s f) (Equation 2 0)
-      before = sizes-never (Equation 2 0) (λ e. omega arith) (λ e. omega arith) (λ e. omega arith) (λ e. omega arith) (lawDCheck cs ∷ lawUCheck cs ∷ lawCCheck mode cs ∷ arcsCheck cs n a ∷ routesCheck cs n r ∷ mappingCheck mode cs n m s ∷ []) (
-        other (Equation 2 0) (unless-number (testD cs) (Law 1 0)) (λ e. omega arith),
-        (
-          other (Equation 2 0) (unless-number (testU cs) (Law 2 0)) (λ e. omega arith),
-          (
-            other (Equation 2 0) (unless-number (not (needsC mode) || testC cs) (Law 3 0)) (λ e. omega arith),
-            entries-never (Equation 2 0) (λ e. omega arith) [] tt,
-          ),
-        ),
-      )
+  equation-refused = exactly-at 15 (Equation 2 0) refl (λ p. refuses-where (Equation 2 0) (solves-exactly cs n (matrixOf l n a) (matrixOf l n r)))
 
   -- Where R holds the best weights and all other checks pass, the call is done ..
-  pub best-done : HoldsBest l n m number a r s f → Pass (beforeEquation l n m number a r s f) → forwardCheck l n m number a r s f ≡ Passed
+  pub best-done : EveryRouteBest l n a r → Pass (beforeEquation l n m number a r s f) → forwardCheck l n m number a r s f ≡ Passed
   best-done b p = pass-first (forwardChecks l n m number a r s f) (all (beforeEquation l n m number a r s f) (solvesCheck cs n a r) p (ap (λ (x : Bool). unless x (Equation 2 0)) solved))
     where
       all : (cs : List Check) (c : Check) → Pass cs → c ≡ Passed → Pass (cs ++ c ∷ [])
@@ -250,10 +199,37 @@ module _ (l : Language) (n m number : ℕ) (a r s f : List ℕ) where
           (entry-valid arcSum cs n a (few l) (check-formed 1 arcSum cs n a (length-passed 1 n a (nodes-passed n (p .0) .1) (p .1 .1 .1 .1 .1 .0)) (laws .1 .1 .1 .0))) b
 
   -- .. and so 12 is never given.
-  pub best-never-twelve : HoldsBest l n m number a r s f → checkTold (forwardCheck l n m number a r s f) ≡ row 12 2 0 → ⊥
+  pub best-never-twelve : EveryRouteBest l n a r → checkTold (forwardCheck l n m number a r s f) ≡ row 12 2 0 → ⊥
   best-never-twelve b e = let g = equation-refused .0 e in told-not-done (Equation 2 0) (sym e ∙ ap checkTold (best-done b (g .0)))
 
-  -- ---- 3, which 3: m 0 is told as a mode that does not fit
+  -- ---- all of them
 
-  pub no-destinations : nodesCheck n ≡ Passed → checkTold (forwardCheck l n 0 number a r s f) ≡ row 3 3 0
-  no-destinations e = ap checkTold (goes-on {d = Refused (Size 3 0)} e refl)
+  square : (which : ℕ) (b : List ℕ) → nodesCheck n ≡ Passed → lengthCheck which n b ≡ Passed → Square n b
+  square which b p q = length-passed which n b (nodes-passed n p .1) q
+
+  mapping-sized : nodesCheck n ≡ Passed → destinationsCheck m ≡ Passed → tableLengthCheck 3 n m s ≡ Passed → Sized n m s
+  mapping-sized p q t = table-length-passed 3 n m s (nodes-passed n p .1) (destinations-passed m q) t
+
+  table-long-case : (which : ℕ) (b : List ℕ) → (tableLengthCheck which n m b ≡ Refused (Length which 0)) ↔ (TableLong n m b → ⊥)
+  table-long-case which b = refuses-where (Length which 0) (eqb-exactly (length b) (n * (m * entryWords)))
+
+  -- Each refusal exactly in its case.
+  pub forward-refusals : ForwardRefusals l n m number a r s f (checkTold (forwardCheck l n m number a r s f))
+  forward-refusals = record {
+    nodes = alone (exactly-at 0 (Size 1 0) refl (λ p. nodes-case n));
+    destinations = exactly-at 1 (Size 2 0) refl (λ p. refuses-where (Size 2 0) (leb-exactly m mostDestinations));
+    mode = exactly-at 2 (Size 3 0) refl (λ p. mode-case);
+    count = exactly-at 3 (BadCount 0 0) refl (λ p. count-case l);
+    limits = λ k. exactly-at 4 (BadComponent 0 k) refl (λ p. limit-case l k);
+    arcs-length = exactly-at 5 (Length 1 0) refl (λ p. length-case 1 n a);
+    routes-length = exactly-at 6 (Length 2 0) refl (λ p. length-case 2 n r);
+    mapping-length = exactly-at 7 (Length 3 0) refl (λ p. table-long-case 3 s);
+    table-length = exactly-at 8 (Length 4 0) refl (λ p. table-long-case 4 f);
+    law-D = exactly-at 9 (Law 1 0) refl (λ p. law-D-missing cs (limits-exact cs .0 (p .1 .1 .1 .1 .0)));
+    law-U = law-U-after (beforeLaws l n m number a r s f) cs (λ p. limits-exact cs .0 (p .1 .1 .1 .1 .0)) (exactly-at 10 (Law 2 0) refl (λ p. law-U-missing cs (limits-exact cs .0 (p .1 .1 .1 .1 .0))));
+    law-C = hot-refused;
+    arcs = λ place. exactly-at 12 (Value 1 place) refl (λ p. check-refuses 1 arcSum cs n a (square 1 a (p .0) (p .1 .1 .1 .1 .1 .0)) (Value 1 place));
+    routes = λ place. exactly-at 13 (Value 2 place) refl (λ p. check-refuses 2 matrixSum cs n r (square 2 r (p .0) (p .1 .1 .1 .1 .1 .1 .0)) (Value 2 place));
+    mapping = λ place. exactly-at 14 (Value 3 place) refl (λ p. entries.check-refuses 3 mode arcSum cs n m s (mapping-sized (p .0) (p .1 .0) (p .1 .1 .1 .1 .1 .1 .1 .0)) (Value 3 place));
+    equation = equation-refused;
+  }

@@ -47,9 +47,9 @@ use Rattle.routes.specs.Calls.{matrixOf}
 use Rattle.routes.proofs.Bridge.{check-pad, entry-valid, entry-padded}
 use Rattle.routes.proofs.Order.{nodes-passed, unless-passes}
 use Rattle.forwarding.specs.Calls.{tableOf, modeMeant, buffersChecks, argumentsChecks, forwardCheck, sumOf, forwardLeftBy, forwardLeft}
-use Rattle.forwarding.proofs.Order.{parts, destinations-passed, WellFormed, Ready, buffers-passed}
+use Rattle.forwarding.proofs.Order.{parts, destinations-passed, BuffersFormed, Ready, buffers-passed}
 use Rattle.forwarding.proofs.Answers.{forward-order}
-use Rattle.forwarded.specs.Table.{left, HoldsBest, TableSays}
+use Rattle.forwarded.specs.Table.{left, EveryRouteBest, TableSays}
 use Rattle.forwarded.proofs.ReadBack.{entry-back, entry-sum}
 
 -- ---- the places of a language
@@ -75,7 +75,7 @@ module _ (l : Language) (n m number : ℕ) (a r s f : List ℕ) where
   -- ---- what passed checks say
 
   -- A, R and M are of the language
-  module _ (w : WellFormed mode cs n m a r s f) where
+  module _ (w : BuffersFormed mode cs n m a r s f) where
     arcs-valid : ValidMatrix (language cs) n (matrixOf l n a)
     arcs-valid = entry-valid arcSum cs n a (few l) (w .arcs)
 
@@ -169,7 +169,7 @@ module _ (l : Language) (n m number : ℕ) (a r s f : List ℕ) where
         (forwarded-sum cs c mode n m (matrixOf l n r) (tableOf l m s) (route-sum (ready .formed) c) (mapping-sum (ready .formed) c) i d hi hd)
 
     -- where R holds the best weights, F does
-    pub forward-best : HoldsBest l n m number a r s f → (i d : ℕ) → i < n → d < m
+    pub forward-best : EveryRouteBest l n a r → (i d : ℕ) → i < n → d < m
         → BestForwarded (language cs) (modeOf mode cs) n (matrixOf l n a) (tableOf l m s) i d (left l n m number a r s f i d)
     forward-best b i d hi hd =
         subst (BestForwarded (language cs) (modeOf mode cs) n (matrixOf l n a) (tableOf l m s) i d) (sym (forward-sum i d hi hd))

@@ -1,2 +1,4 @@
 pub mod Table
 pub mod Exact
+pub mod Figures
+pub mod Printed

@@ -14,14 +14,14 @@ use Rattle.tables.specs.Tables.{FormedTable}
 use Rattle.routes.specs.Calls.{matrixOf}
 use Rattle.forwarding.specs.Calls.{tableOf, modeMeant, sumOf, forwardLeft}
 
+-- every entry of R is the best weight over paths that visit no node twice
+abbrev pub EveryRouteBest : Language → ℕ → List ℕ → List ℕ → Type 0
+EveryRouteBest l n a r = (i j : ℕ) → i < n → j < n → Best (language (componentsOf l)) n (matrixOf l n a) i j (matrixOf l n r i j)
+
 module _ (l : Language) (n m number : ℕ) (a r s f : List ℕ) where
   -- F, the table that the buffer holds after the call
   abbrev pub left : ℕ → ℕ → Entry
   left = tableOf l m (forwardLeft l n m number a r s f)
-
-  -- every entry of R is the best weight over paths that visit no node twice
-  abbrev pub HoldsBest : Type 0
-  HoldsBest = (i j : ℕ) → i < n → j < n → Best (language (componentsOf l)) n (matrixOf l n a) i j (matrixOf l n r i j)
 
   pub record TableSays : Type 0 where
     -- F(i,d) is the best over k of R(i,k) applied to M(k,d)
@@ -31,4 +31,4 @@ module _ (l : Language) (n m number : ℕ) (a r s f : List ℕ) where
     -- the words are a table of the language and the mode, every sum at most 1,048,560
     pub formed : FormedTable (modeMeant l m number) tableSum (componentsOf l) n m (forwardLeft l n m number a r s f)
     -- where R holds the best weights, F(i,d) is the best over k and over the paths from i to k of the path's weight applied to M(k,d)
-    pub best : HoldsBest → (i d : ℕ) → i < n → d < m → BestForwarded (language (componentsOf l)) (modeOf (modeMeant l m number) (componentsOf l)) n (matrixOf l n a) (tableOf l m s) i d (left i d)
+    pub best : EveryRouteBest l n a r → (i d : ℕ) → i < n → d < m → BestForwarded (language (componentsOf l)) (modeOf (modeMeant l m number) (componentsOf l)) n (matrixOf l n a) (tableOf l m s) i d (left i d)

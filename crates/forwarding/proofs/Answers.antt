@@ -32,7 +32,7 @@ use Rattle.routes.proofs.Order.{stops, goes-on}
 use Rattle.forwarding.specs.Checks.{destinationsCheck, modeCheck, chosenMode, mappingCheck, solvesCheck}
 use Rattle.forwarding.specs.Calls.{modeMeant, buffersChecks, argumentsChecks, forwardCheck, forwardLeftBy, forwardLeft}
 use Rattle.forwarding.specs.Ready.{InPlaces, Means}
-use Rattle.forwarding.proofs.Order.{group, Lengths, Laws, Entries, buffers-order, Long, lengths-passed, WellFormed, entries-passed, buffers-passed}
+use Rattle.forwarding.proofs.Order.{group, Lengths, Laws, Entries, buffers-order, Long, lengths-passed, BuffersFormed, entries-passed, buffers-passed}
 
 -- the rest matters only where the first passes
 then-same : (c : Check) {d e : Check} → (c ≡ Passed → d ≡ e) → orElse c d ≡ orElse c e
@@ -61,10 +61,10 @@ module _ (l : Language) (n m number : ℕ) (a r s f : List ℕ) where
         ∙ ap₂ (λ (x y : Check). firstOf (x ∷ y ∷ mappingCheck mode (padded places cs) n m s ∷ [])) (check-pad 1 arcSum cs n a (few l) (g .arcs)) (check-pad 2 matrixSum cs n r (few l) (g .routes))
         ∙ ap (λ (z : Check). firstOf (arcsCheck cs n a ∷ routesCheck cs n r ∷ z ∷ [])) (table-check-pad 3 mode arcSum cs n m s (few l) (g .mapping))
 
-    routes-go : WellFormed mode (placesOf p) n m a r s f → GoesTo (language cs) (language (placesOf p)) (Valid cs) (padWeight places) n (matrixOf l n r) (matrixIn places n r)
+    routes-go : BuffersFormed mode (placesOf p) n m a r s f → GoesTo (language cs) (language (placesOf p)) (Valid cs) (padWeight places) n (matrixOf l n r) (matrixIn places n r)
     routes-go w = buffer-goes cs p (few l) (o .placed) sound n a matrixSum r (w .routes)
 
-    solves-same : WellFormed mode (placesOf p) n m a r s f → solvesCheck (placesOf p) n a r ≡ solvesCheck cs n a r
+    solves-same : BuffersFormed mode (placesOf p) n m a r s f → solvesCheck (placesOf p) n a r ≡ solvesCheck cs n a r
     solves-same w =
         ap (λ (b : Bool). unless b (Equation 2 0))
         (solves-go cs p (few l) (o .placed) sound n a (matrixOf l n a) (matrixIn places n a) (buffer-goes cs p (few l) (o .placed) sound n a arcSum a (w .arcs)) (matrixOf l n r) (matrixIn places n r) (routes-go w))

@@ -192,26 +192,26 @@ module _ (mode : Mode) (cs : List Component) (n m : ℕ) (a r s f : List ℕ) wh
       let (ec, e3) = parts (lawCCheck mode cs) _ e2 in
       record { law-D = unless-passes (testD cs) (Law 1 0) ed; law-U = unless-passes (testU cs) (Law 2 0) eu; law-C = law-C-passed mode cs ec }
 
-  pub record WellFormed : Type 0 where
+  pub record BuffersFormed : Type 0 where
     pub arcs : Formed arcSum cs n a
     pub routes : Formed matrixSum cs n r
     pub mapping : FormedTable mode arcSum cs n m s
 
-  pub entries-passed : Long → firstOf Entries ≡ Passed → WellFormed
+  pub entries-passed : Long → firstOf Entries ≡ Passed → BuffersFormed
   entries-passed g e =
       let (ea, e1) = parts (arcsCheck cs n a) _ e in
       let (er, e2) = parts (routesCheck cs n r) _ e1 in
       let (es, e3) = parts (mappingCheck mode cs n m s) _ e2 in
       record { arcs = check-formed 1 arcSum cs n a (g .arcs) ea; routes = check-formed 2 matrixSum cs n r (g .routes) er; mapping = entries.check-formed 3 mode arcSum cs n m s (g .mapping) es }
 
-  pub given : InPlaces n m cs → Lawful → WellFormed → Given cs n a r
+  pub given : InPlaces n m cs → Lawful → BuffersFormed → Given cs n a r
   given o u w = record { limits = o .limits; sound = o .sound; law-D = u .law-D; law-U = u .law-U; arcs = w .arcs; routes = w .routes }
 
   -- all that is known where every check on the buffers passes
   pub record Ready : Type 0 where
     pub long : Long
     pub laws : Lawful
-    pub formed : WellFormed
+    pub formed : BuffersFormed
     pub solved : solvesCheck cs n a r ≡ Passed
 
   pub buffers-passed : n ≤ 16 → m ≤ 32 → firstOf (buffersChecks mode cs n m a r s f) ≡ Passed → Ready

@@ -1,12 +1,8 @@
 -- Two answers that meet one contract are equal, and so are the buffers that they leave.
 use Prim.Native.Nat.{ℕ}
 use mathlib.Core.Path.{_≡_, sym, ap, ap₂, _∙_}
-use mathlib.Core.List.{List, []}
-use Rattle.refusals.specs.declared.Refusal.{Refusal}
-use Rattle.refusals.specs.declared.Check.{Check}
-use Rattle.refusals.specs.declared.Check.the-variants.{Refused}
+use mathlib.Core.List.{List}
 use Rattle.refusals.specs.declared.Answer.{Answer}
-use Rattle.refusals.specs.Checks.{answerTold, checkTold}
 use Rattle.refusals.proofs.OneToOne.{answer-one}
 use Rattle.refusals.proofs.First.{passed-not}
 use Rattle.weights.specs.declared.Language.{Language}
@@ -14,27 +10,17 @@ use Rattle.weights.proofs.Unique.{places-one}
 use Rattle.tables.specs.declared.Mode.{Mode}
 use Rattle.tables.specs.declared.Chosen.{Chosen}
 use Rattle.tables.specs.declared.Chosen.the-variants.{Fits}
+use Rattle.routes.proofs.Order.{refused-one}
 use Rattle.forwarding.specs.declared.Arguments.{Arguments}
 use Rattle.forwarding.specs.declared.Arguments.the-variants.{Given, Refused as Not-given}
-use Rattle.forwarding.specs.Calls.{forwardCheck, forwardLeft}
+use Rattle.forwarding.specs.Calls.{Meets}
 use Rattle.forwarding.specs.Ready.{ArgumentsSay}
 
 module _ (l : Language) (n m number : ℕ) where
-  -- what the contract of forward says of an answer and of what the buffer holds then
-  pub record Meets (a r s f : List ℕ) (x : Answer) (left : List ℕ) : Type 0 where
-    pub answer : answerTold x ≡ checkTold (forwardCheck l n m number a r s f)
-    pub buffer : left ≡ forwardLeft l n m number a r s f
-
-  pub forward-answers-equal : (a r s f : List ℕ) (x y : Answer) (left right : List ℕ) → Meets a r s f x left → Meets a r s f y right → (x ≡ y) × (left ≡ right)
+  pub forward-answers-equal : (a r s f : List ℕ) (x y : Answer) (left right : List ℕ) → Meets l n m number a r s f x left → Meets l n m number a r s f y right → (x ≡ y) × (left ≡ right)
   forward-answers-equal a r s f x y left right p q = (answer-one x y (p .answer ∙ sym (q .answer)), p .buffer ∙ sym (q .buffer))
 
   -- ---- the checks of the arguments
-
-  refused-one : {c : Check} {x y : Refusal} → c ≡ Refused x → c ≡ Refused y → x ≡ y
-  refused-one p q = same (sym p ∙ q)
-    where
-      same : {x y : Refusal} → Refused x ≡ Refused y → x ≡ y
-      same e = cc
 
   fits-one : {c : Chosen} {x y : Mode} → c ≡ Fits x → c ≡ Fits y → x ≡ y
   fits-one p q = same (sym p ∙ q)
@@ -46,4 +32,4 @@ module _ (l : Language) (n m number : ℕ) where
   arguments-one (Given p x) (Given q y) h k = ap₂ Given (places-one p q (h .1 .placed ∙ sym (k .1 .placed))) (fits-one (h .1 .chosen) (k .1 .chosen))
   arguments-one (Given p x) (Not-given s) h k = absurd (passed-not s (sym (h .0) ∙ k))
   arguments-one (Not-given s) (Given q y) h k = absurd (passed-not s (sym (k .0) ∙ h))
-  arguments-one (Not-given s) (Not-given t) h k = ap Not-given (refused-one h k)
+  arguments-one (Not-given s) (Not-given t) h k = ap Not-given (refused-one (sym h ∙ k))

@@ -1,11 +1,13 @@
 -- The call forward (01, "Forwarding and the next hop"): its checks in 01's order, its answer, and what its buffer holds then.
 -- To be believed: all of it.
 use Prim.Native.Nat.{ℕ}
+use mathlib.Core.Path.{_≡_}
 use mathlib.Core.List.{List, [], _∷_}
 use lib.ListN.{length}
 use Rattle.refusals.specs.declared.Check.{Check}
 use Rattle.refusals.specs.declared.Check.the-variants.{Passed, Refused}
-use Rattle.refusals.specs.Checks.{firstOf}
+use Rattle.refusals.specs.declared.Answer.{Answer}
+use Rattle.refusals.specs.Checks.{firstOf, answerTold, checkTold}
 use Rattle.algebra.specs.Modes.{forwarded}
 use Rattle.weights.specs.declared.Component.{Component}
 use Rattle.weights.specs.declared.Language.{Language}
@@ -54,3 +56,8 @@ forwardLeftBy (Refused x) l mode n m r s f = f
 
 abbrev pub forwardLeft : Language → ℕ → ℕ → ℕ → List ℕ → List ℕ → List ℕ → List ℕ → List ℕ
 forwardLeft l n m number a r s f = forwardLeftBy (forwardCheck l n m number a r s f) l (modeMeant l m number) n m r s f
+
+-- what the contract of forward says of an answer and of what the buffer holds then
+pub record Meets (l : Language) (n m number : ℕ) (a r s f : List ℕ) (x : Answer) (left : List ℕ) : Type 0 where
+  pub answer : answerTold x ≡ checkTold (forwardCheck l n m number a r s f)
+  pub buffer : left ≡ forwardLeft l n m number a r s f

@@ -18,7 +18,8 @@ use Rattle.weights.specs.declared.Language.{Language}
 use Rattle.weights.specs.declared.Places.{Places}
 use Rattle.weights.specs.Sizes.{places, arcSum}
 use Rattle.weights.specs.Weights.{Valid, language}
-use Rattle.weights.specs.Languages.{componentsOf, placesOf, sameValues}
+use Rattle.weights.specs.Languages.{componentsOf, placesOf}
+use Rattle.weights.specs.Values.{sameValues}
 use Rattle.weights.proofs.Padding.{padWeight}
 use Rattle.weights.proofs.Checking.{few}
 use Rattle.matrices.specs.Buffers.{matrixWords, matrixIn, Square}
@@ -88,13 +89,13 @@ module _ (l : Language) (n : ℕ) (a standing newer : List ℕ) (i : ℕ) where
   -- ---- the row
 
   -- both matrices have their size, and i is a node
-  pub record Sized : Type 0 where
+  pub record BuffersSized : Type 0 where
     pub some : 1 ≤ n
     pub new-square : Square n newer
     pub standing-square : Square n standing
     pub node : i < n
 
-  pub sized : check ≡ Passed → Sized
+  pub sized : check ≡ Passed → BuffersSized
   sized e =
       let h = first-passes (handoverChecks l n a standing newer i) e in
       let few = nodes-passed n (h .0) .1 in

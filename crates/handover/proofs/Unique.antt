@@ -3,9 +3,6 @@ use Prim.Native.Nat.{ℕ}
 use mathlib.Core.Path.{_≡_, refl, sym, ap, _∙_}
 use mathlib.Core.List.{List}
 use native.Mathlib.Omega.{arith}
-use Rattle.refusals.specs.declared.Refusal.{Refusal}
-use Rattle.refusals.specs.declared.Check.{Check}
-use Rattle.refusals.specs.declared.Check.the-variants.{Refused}
 use Rattle.refusals.specs.declared.Answer.{Answer}
 use Rattle.refusals.specs.Checks.{answerTold, checkTold}
 use Rattle.refusals.proofs.OneToOne.{told-one, told-not-done, answer-one}
@@ -14,6 +11,7 @@ use Rattle.weights.specs.declared.Language.{Language}
 use Rattle.weights.proofs.Unique.{places-one}
 use Rattle.routes.specs.declared.Ready.{Ready}
 use Rattle.routes.specs.declared.Ready.the-variants.{Given as Places-given, Refused as Call-refused}
+use Rattle.routes.proofs.Order.{refused-one}
 use Rattle.handover.specs.declared.LenderAnswer.{LenderAnswer}
 use Rattle.handover.specs.declared.LenderAnswer.the-variants.{Newer, Standing, Refused as LenderRefused}
 use Rattle.handover.specs.Calls.{handoverCheck, LenderRow, lenderRow, lenderSaid, lentRow, lentStart}
@@ -42,14 +40,8 @@ module _ (l : Language) (n : ℕ) (a standing newer : List ℕ) (i : ℕ) where
       → (ys ≡ lentRow l n a standing newer i) × (y ≡ lentStart l n a standing newer i v w) → (xs ≡ ys) × (x ≡ y)
   lent-parts-equal v w xs ys x y p q = (p .0 ∙ sym (q .0), p .1 ∙ sym (q .1))
 
-  refused-one : {c : Check} {r s : Refusal} → c ≡ Refused r → c ≡ Refused s → r ≡ s
-  refused-one p q = same (sym p ∙ q)
-    where
-      same : {r s : Refusal} → Refused r ≡ Refused s → r ≡ s
-      same e = cc
-
   pub handover-ready-one : (x y : Ready) → HandoverReady l n a standing newer i x → HandoverReady l n a standing newer i y → x ≡ y
   handover-ready-one (Places-given p) (Places-given q) h k = ap Places-given (places-one p q (h .passing .placed ∙ sym (k .passing .placed)))
   handover-ready-one (Places-given p) (Call-refused s) h k = absurd (passed-not s (sym (h .passes) ∙ k))
   handover-ready-one (Call-refused s) (Places-given q) h k = absurd (passed-not s (sym (k .passes) ∙ h))
-  handover-ready-one (Call-refused s) (Call-refused t) h k = ap Call-refused (refused-one h k)
+  handover-ready-one (Call-refused s) (Call-refused t) h k = ap Call-refused (refused-one (sym h ∙ k))

@@ -11,7 +11,7 @@ use lib.ListN.{length, getD, take, drop}
 use borrow.Author.Tests.{eq-eqb, ne-eqb}
 use Rattle.weights.specs.Sizes.{weightWords}
 use Rattle.weights.specs.Weights.{route}
-use Rattle.weights.specs.Languages.{sameValues}
+use Rattle.weights.specs.Values.{sameValues}
 use Rattle.weights.specs.Words.{words}
 use Rattle.weights.proofs.Buffers.{four-words}
 use Rattle.weights.proofs.Compared.{same-exactly}

@@ -1,8 +1,7 @@
 -- The calls of a handover (01, "Forwarding and the next hop"): the checks in 01's order, which matrix lends, and the row that is lent.
 -- To be believed: all of it. That `isBest` holds exactly where every entry is the best, and none malformed, is `test-exactly` (handovers/proofs/Tested).
 use Prim.Native.Nat.{ℕ, _+_, _*_}
-use mathlib.Core.Path.{_≡_}
-use mathlib.Core.Bool.{Bool, true, cond}
+use mathlib.Core.Bool.{Bool, cond}
 use mathlib.Core.List.{List, [], _∷_}
 use lib.ListN.{take, drop}
 use Rattle.refusals.specs.declared.Check.{Check}
@@ -14,9 +13,9 @@ use Rattle.algebra.specs.Best.{best}
 use Rattle.weights.specs.declared.Language.{Language}
 use Rattle.weights.specs.Sizes.{weightWords}
 use Rattle.weights.specs.Weights.{language}
-use Rattle.weights.specs.Languages.{componentsOf, countCheck, limitCheck, sameValues}
+use Rattle.weights.specs.Languages.{componentsOf, countCheck, limitCheck}
+use Rattle.weights.specs.Values.{sameValues}
 use Rattle.matrices.specs.Buffers.{matrixWords}
-use Rattle.matrices.specs.Steps.{solves}
 use Rattle.routes.specs.Checks.{nodesCheck, lengthCheck, lawDCheck, lawUCheck, arcsCheck, nodeCheck}
 use Rattle.routes.specs.Calls.{matrixOf}
 use Rattle.handover.specs.declared.LenderAnswer.{LenderAnswer}
@@ -89,12 +88,3 @@ lentStartBy (Refused x) isNew n i standing newer = standing
 
 abbrev pub lentStart : Language → ℕ → List ℕ → List ℕ → List ℕ → ℕ → ℕ × ℕ → ℕ × ℕ → ℕ × ℕ
 lentStart l n a standing newer i from-standing from-newer = lentStartBy (handoverCheck l n a standing newer i) (isBest l n a newer) n i from-standing from-newer
-
--- ---- "Satisfying the routing equation is not enough"
-
--- the new matrix satisfies the equation, and yet the row that is lent is the standing one's, which is another
-pub record NotEnough (l : Language) (n : ℕ) (a standing newer : List ℕ) (i : ℕ) : Type 0 where
-  pub passes : handoverCheck l n a standing newer i ≡ Passed
-  pub satisfies : solves (componentsOf l) n (matrixOf l n a) (matrixOf l n newer) ≡ true
-  pub lends : lentRow l n a standing newer i ≡ rowPart n i standing
-  pub another : rowPart n i newer ≡ rowPart n i standing → ⊥

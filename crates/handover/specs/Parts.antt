@@ -8,7 +8,8 @@ use Rattle.refusals.specs.declared.Check.the-variants.{Passed, Refused}
 use Rattle.weights.specs.declared.Language.{Language}
 use Rattle.weights.specs.declared.Places.{Places}
 use Rattle.weights.specs.Sizes.{weightWords}
-use Rattle.weights.specs.Languages.{placesOf, sameValues}
+use Rattle.weights.specs.Languages.{placesOf}
+use Rattle.weights.specs.Values.{sameValues}
 use Rattle.weights.specs.Words.{words}
 use Rattle.matrices.specs.Buffers.{wordsAt, entryPlace, Square}
 use Rattle.matrices.specs.Steps.{Matrix, every, GivenArcs}

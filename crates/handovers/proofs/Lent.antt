@@ -24,17 +24,17 @@ use Rattle.routes.specs.Checks.{nodesCheck, lengthCheck, lawDCheck, lawUCheck}
 use Rattle.routes.specs.Calls.{stepOf, stepsRow, stepsLeft}
 use Rattle.routes.proofs.Order.{length-same, node-in}
 use Rattle.refusals.proofs.Exactly.{told-check}
-use Rattle.histories.specs.History.{Begun, held, ran, ColumnBest}
+use Rattle.histories.specs.History.{HistoryBegun, held, ran, BestColumn}
 use Rattle.histories.proofs.Reached.{reached-formed}
 use Rattle.histories.proofs.Histories.{history-demand-3}
 use Rattle.handover.specs.Calls.{handoverChecks, handoverCheck, isBest, lenderRowBy, lenderRow, rowPart, lentRowBy, lentRow}
 use Rattle.handover.proofs.Answers.{sized}
-use Rattle.handovers.specs.Handovers.{Lawfully, EveryEntryBest, SettlesAll}
+use Rattle.handovers.specs.Handovers.{LawfulNetwork, EveryEntryBest, SettlesAll}
 use Rattle.handovers.proofs.Tested.{S, D, U, arcs, test-exactly}
-use Rattle.handovers.proofs.Recipe.{steps-lawfully, left-long, settled-is-best}
+use Rattle.handovers.proofs.Recipe.{steps-lawful, left-long, settled-is-best}
 
 -- the checks of a handover: what every call on A gives, two matrices of the right length, and a node
-pub handover-passes : (l : Language) (n : ℕ) (a standing newer : List ℕ) (i : ℕ) → Lawfully l n a → length newer ≡ n * (n * weightWords) → length standing ≡ n * (n * weightWords) → i < n → handoverCheck l n a standing newer i ≡ Passed
+pub handover-passes : (l : Language) (n : ℕ) (a standing newer : List ℕ) (i : ℕ) → LawfulNetwork l n a → length newer ≡ n * (n * weightWords) → length standing ≡ n * (n * weightWords) → i < n → handoverCheck l n a standing newer i ≡ Passed
 handover-passes l n a standing newer i g e f h =
     pass-first (handoverChecks l n a standing newer i)
     (g .nodes, (g .count, (g .sound, (g .long, (sym (length-same 2 n newer e), (sym (length-same 5 n standing f), (g .law-D, (g .law-U, (g .arcs, (sym (node-in 0 n i h), tt))))))))))
@@ -88,30 +88,30 @@ module _ (l : Language) (n : ℕ) (a standing newer : List ℕ) (i : ℕ) where
   standing-row-lent p q = by-test false p q
 
   module _ (limits : SmallLimits 65535 (componentsOf l)) (p : check ≡ Passed) where
-    pub handover-lawfully : Lawfully l n a
-    handover-lawfully =
+    pub handover-lawful : LawfulNetwork l n a
+    handover-lawful =
         let h = first-passes (handoverChecks l n a standing newer i) p in
         record { nodes = h .0; count = h .1 .0; sound = h .1 .1 .0; long = h .1 .1 .1 .0; law-D = h .1 .1 .1 .1 .1 .1 .0; law-U = h .1 .1 .1 .1 .1 .1 .1 .0; arcs = h .1 .1 .1 .1 .1 .1 .1 .1 .0; limits = limits }
 
     -- The new matrix's row is lent where every entry of it is the best ..
     pub best-lends-new : EveryEntryBest l n a newer → lentRow l n a standing newer i ≡ rowPart n i newer
-    best-lends-new b = by-test true p (test-exactly l n a handover-lawfully newer .1 b)
+    best-lends-new b = by-test true p (test-exactly l n a handover-lawful newer .1 b)
 
     -- .. and else the standing one's.
     pub else-lends-standing : (EveryEntryBest l n a newer → ⊥) → lentRow l n a standing newer i ≡ rowPart n i standing
     else-lends-standing f = go (isBest l n a newer) refl
       where
         go : (b : Bool) → isBest l n a newer ≡ b → lentRow l n a standing newer i ≡ rowPart n i standing
-        go true q = absurd (f (test-exactly l n a handover-lawfully newer .0 q))
+        go true q = absurd (f (test-exactly l n a handover-lawful newer .0 q))
         go false q = by-test false p q
 
 -- ---- a history of calls
 
-module _ (l : Language) (n : ℕ) (a r : List ℕ) (b : Begun l n a r) (lists : List (List ℕ)) where
+module _ (l : Language) (n : ℕ) (a r : List ℕ) (b : HistoryBegun l n a r) (lists : List (List ℕ)) where
   abbrev newer : List ℕ
   newer = held l n a r lists
 
-  known : Lawfully l n a
+  known : LawfulNetwork l n a
   known =
       let h = first-passes (nodesCheck n ∷ countCheck l ∷ limitCheck l ∷ lengthCheck 2 n r ∷ lawDCheck (componentsOf l) ∷ lawUCheck (componentsOf l) ∷ []) (b .fresh-done) in
       record { nodes = h .0; count = h .1 .0; sound = h .1 .1 .0; long = b .arcs-long; law-D = h .1 .1 .1 .1 .0; law-U = h .1 .1 .1 .1 .1 .0; arcs = b .arcs-formed; limits = b .limits }
@@ -124,7 +124,7 @@ module _ (l : Language) (n : ℕ) (a r : List ℕ) (b : Begun l n a r) (lists : 
   history-best : SettlesAll n (ran l n a r lists) ⊎ ((m : ℕ) × (n ≤ suc m) × Stretches n m (map stepOf (ran l n a r lists))) → EveryEntryBest l n a newer
   history-best h = record { formed = history-formed; best = λ u j hu hj. columns h j hj u hu }
     where
-      columns : SettlesAll n (ran l n a r lists) ⊎ ((m : ℕ) × (n ≤ suc m) × Stretches n m (map stepOf (ran l n a r lists))) → (j : ℕ) → j < n → ColumnBest l n a r lists j
+      columns : SettlesAll n (ran l n a r lists) ⊎ ((m : ℕ) × (n ≤ suc m) × Stretches n m (map stepOf (ran l n a r lists))) → (j : ℕ) → j < n → BestColumn l n a newer j
       columns (inl s) j hj = history-demand-3 l n a r b lists .settled j hj (s j hj)
       columns (inr (m, k, t)) j hj = history-demand-3 l n a r b lists .swept m k t j hj
 
@@ -140,5 +140,5 @@ pub settling-lends-new : (l : Language) (n : ℕ) (a r list standing : List ℕ)
     → length standing ≡ n * (n * weightWords) → i < n → lentRow l n a standing (stepsLeft l n a r list) i ≡ rowPart n i (stepsLeft l n a r list)
 settling-lends-new l n a r list standing i limits d all e hi =
     new-row-lent l n a standing (stepsLeft l n a r list) i
-    (handover-passes l n a standing (stepsLeft l n a r list) i (steps-lawfully l n a r list limits d) (left-long l n a r list limits d) e hi)
+    (handover-passes l n a standing (stepsLeft l n a r list) i (steps-lawful l n a r list limits d) (left-long l n a r list limits d) e hi)
     (settled-is-best l n a r list limits d all)

@@ -24,21 +24,23 @@ use Rattle.weights.specs.declared.Language.{Language}
 use Rattle.weights.specs.Sizes.{weightWords, matrixSum}
 use Rattle.weights.specs.Weights.{language}
 use Rattle.weights.specs.Languages.{componentsOf, SmallLimits}
+use Rattle.weights.proofs.Checking.{few}
 use Rattle.matrices.specs.Buffers.{matrixWords}
 use Rattle.matrices.specs.Steps.{Matrix, solves}
 use Rattle.matrices.proofs.Entries.{matrix-cong, length-matrix}
 use Rattle.matrices.proofs.Every.{solves-exactly}
-use Rattle.matrices.proofs.Malformed.{check-formed}
 use Rattle.routes.specs.Checks.{firstSettle, manyCheck, listCheck}
 use Rattle.routes.specs.Calls.{matrixOf, stepOf, stepFits, runOf, doneOf, matricesChecks, stepsCheck, stepsRowBy, stepsRow, stepsLeftBy, stepsLeft}
-use Rattle.routes.proofs.Order.{nodes-passed, length-passed}
+use Rattle.routes.proofs.Order.{nodes-passed}
+use Rattle.histories.specs.History.{BestColumn}
 use Rattle.histories.proofs.Reached.{network}
 use Rattle.handover.specs.Calls.{bestWords, isBest}
 use Rattle.handover.proofs.Words.{words-exactly}
 use Rattle.histories.proofs.Reached.{length-steps}
 use Rattle.histories.proofs.Histories.{settle-number, mem-steps}
-use Rattle.handovers.specs.Handovers.{Lawfully, BestColumn, RowsOnly, SettlesAll}
-use Rattle.handovers.proofs.Tested.{call-lawfully, formed-words, net, entry-reads, only-best}
+use Rattle.histories.proofs.Standing.{words-self, routes-formed}
+use Rattle.handovers.specs.Handovers.{LawfulNetwork, RowsOnly, SettlesAll}
+use Rattle.handovers.proofs.Tested.{call-lawful, net, entry-reads, only-best}
 
 -- ---- sweeping
 
@@ -71,12 +73,10 @@ sweeping-never-repairs l n a r list e rows = go (stepsCheck l n a r list) refl
     passed : stepsCheck l n a r list ≡ Passed → matrixWords n (runOf (componentsOf l) n (matrixOf l n a) (matrixOf l n r) (map stepOf list)) ≡ r
     passed p =
         let h = first-passes (matricesChecks l n a r (manyCheck list ∷ listCheck n list ∷ [])) p in
-        let few = nodes-passed n (h .0) .1 in
-        let formed = check-formed 2 matrixSum (componentsOf l) n r (length-passed 2 n r few (h .1 .1 .1 .1 .0)) (h .1 .1 .1 .1 .1 .1 .1 .1 .0) in
-        ap (λ (s : List Step). matrixWords n (runOf (componentsOf l) n (matrixOf l n a) (matrixOf l n r) s)) (row-steps n list few rows)
+        ap (λ (s : List Step). matrixWords n (runOf (componentsOf l) n (matrixOf l n a) (matrixOf l n r) s)) (row-steps n list (nodes-passed n (h .0) .1) rows)
         ∙ matrix-cong n (runOf (componentsOf l) n (matrixOf l n a) (matrixOf l n r) (map row list)) (matrixOf l n r)
         (still (componentsOf l) n (matrixOf l n a) (matrixOf l n r) (solves-exactly (componentsOf l) n (matrixOf l n a) (matrixOf l n r) .0 e) list (matrixOf l n r) (λ i j hi hj. refl))
-        ∙ formed-words l matrixSum n r formed
+        ∙ words-self matrixSum (componentsOf l) n r (few l) (routes-formed l n a r (manyCheck list ∷ listCheck n list ∷ []) h)
 
     go : (c : Check) → stepsCheck l n a r list ≡ c → stepsLeft l n a r list ≡ r
     go Passed p = ap (λ (c : Check). stepsLeftBy c n (runOf (componentsOf l) n (matrixOf l n a) (matrixOf l n r) (map stepOf list)) r) p ∙ passed p
@@ -133,8 +133,8 @@ module _ (l : Language) (n : ℕ) (a r list : List ℕ) (limits : SmallLimits 65
       go true p e = absurd (told-not-done (Sum 0 (doneOf cs n A R steps)) e)
       go false p e = omega (arith, ltb-false (doneOf cs n A R steps) (length list) p, done-most cs n A R steps, length-steps list)
 
-  pub steps-lawfully : Lawfully l n a
-  steps-lawfully = call-lawfully l n a r (manyCheck list ∷ listCheck n list ∷ []) limits passed
+  pub steps-lawful : LawfulNetwork l n a
+  steps-lawful = call-lawful l n a r (manyCheck list ∷ listCheck n list ∷ []) limits passed
 
   -- the buffer holds what the steps leave, as long as before
   left : stepsLeft l n a r list ≡ matrixWords n (run (language cs) n A steps R)
@@ -148,15 +148,15 @@ module _ (l : Language) (n : ℕ) (a r list : List ℕ) (limits : SmallLimits 65
   column j m i hi =
       let (s, t, e) = mem-split (settle j) steps (subst (λ (x : Step). Mem x steps) (settle-number j) (mem-steps (firstSettle + j) list m)) in
       subst (λ (w : List Step). Best (language cs) n A i j (run (language cs) n A w R i j)) (sym e)
-      (subst (λ (T : Matrix). Best (language cs) n A i j (T i j)) (sym (run-append (language cs) n A s (settle j ∷ t) R)) (settled-from-any (net l n a steps-lawfully) (run (language cs) n A s R) j t i hi))
+      (subst (λ (T : Matrix). Best (language cs) n A i j (T i j)) (sym (run-append (language cs) n A s (settle j ∷ t) R)) (settled-from-any (net l n a steps-lawful) (run (language cs) n A s R) j t i hi))
 
   entry : (i j : ℕ) → i < n → Mem (firstSettle + j) list → run (language cs) n A steps R i j ≡ best (language cs) n A i j
-  entry i j hi m = only-best l n a steps-lawfully i j hi (run (language cs) n A steps R i j) (column j m i hi)
+  entry i j hi m = only-best l n a steps-lawful i j hi (run (language cs) n A steps R i j) (column j m i hi)
 
   -- From any matrix that passes the checks: a done call whose list settles column j leaves the best there.
   pub settled-column : (j : ℕ) → j < n → Mem (firstSettle + j) list → BestColumn l n a (stepsLeft l n a r list) j
   settled-column j hj m i hi =
-      subst (Best (language cs) n A i j) (entry i j hi m ∙ sym (entry-reads l n a steps-lawfully (run (language cs) n A steps R) i j hi hj (entry i j hi m)) ∙ sym (ap (λ (s : List ℕ). matrixOf l n s i j) left)) (column j m i hi)
+      subst (Best (language cs) n A i j) (entry i j hi m ∙ sym (entry-reads l n a steps-lawful (run (language cs) n A steps R) i j hi hj (entry i j hi m)) ∙ sym (ap (λ (s : List ℕ). matrixOf l n s i j) left)) (column j m i hi)
 
   -- A done call that settles every column leaves the best matrix, whatever the buffer held before.
   pub settling-repairs : SettlesAll n list → stepsLeft l n a r list ≡ bestWords l n a

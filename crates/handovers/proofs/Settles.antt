@@ -24,7 +24,7 @@ use Rattle.weights.specs.Weights.{language}
 use Rattle.weights.specs.Languages.{componentsOf, SmallLimits}
 use Rattle.matrices.specs.Steps.{Matrix}
 use Rattle.routes.specs.Checks.{firstSettle, mostSteps, isStep, manyCheck, listCheck}
-use Rattle.routes.specs.Calls.{matrixOf, stepOf, doneOf, matricesChecks, stepsCheck, StepsRow, ranRow, stepsRowBy, stepsRow, stepsLeft}
+use Rattle.routes.specs.Calls.{matrixOf, stepOf, doneOf, matricesChecks, stepsCheck, StepsRow, rowAfterRun, stepsRowBy, stepsRow, stepsLeft}
 use Rattle.routes.specs.Ready.{AllSteps}
 use Rattle.routes.proofs.Order.{goes-on, matrices-rest, nodes-passed}
 use Rattle.routes.proofs.Lists.{step-settle, passed-list}
@@ -53,7 +53,7 @@ module _ (l : Language) (n : ℕ) (a r : List ℕ) (p : firstOf (matricesChecks 
   pub settles-only-done : (list : List ℕ) → SettlesOnly n list → length list ≤ mostSteps → stepsRow l n a r list ≡ record { told = done; done = length list }
   settles-only-done list s h =
       ap (λ (c : Check). stepsRowBy c (doneOf (componentsOf l) n (matrixOf l n a) (matrixOf l n r) (map stepOf list)) (length list)) passes
-      ∙ ap (λ (k : ℕ). ranRow k (length list)) (all-done (componentsOf l) n (matrixOf l n a) (matrixOf l n r) list s)
+      ∙ ap (λ (k : ℕ). rowAfterRun k (length list)) (all-done (componentsOf l) n (matrixOf l n a) (matrixOf l n r) list s)
       ∙ rw (le-ltb (length list) (length list) (omega arith))
     where
       few : n ≤ 16

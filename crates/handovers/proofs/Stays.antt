@@ -20,10 +20,10 @@ use Rattle.matrices.specs.Buffers.{matrixWords}
 use Rattle.matrices.specs.Steps.{Matrix}
 use Rattle.routes.specs.Checks.{firstSettle, manyCheck, listCheck}
 use Rattle.routes.specs.Calls.{matrixOf, stepOf, stepFits, runOf, stepsCheck, stepsRow, stepsLeftBy, stepsLeft}
-use Rattle.histories.specs.History.{afterCalls}
+use Rattle.histories.specs.History.{afterCalls, BestColumn}
 use Rattle.histories.proofs.Reached.{network}
-use Rattle.handovers.specs.Handovers.{Lawfully, BestColumn}
-use Rattle.handovers.proofs.Tested.{call-lawfully, net, is-best, only-best, entry-reads}
+use Rattle.handovers.specs.Handovers.{LawfulNetwork}
+use Rattle.handovers.proofs.Tested.{call-lawful, net, is-best, only-best, entry-reads}
 use Rattle.handovers.proofs.Recipe.{settled-column}
 
 module _ (l : Language) (n : ℕ) (a : List ℕ) (j : ℕ) where
@@ -37,7 +37,7 @@ module _ (l : Language) (n : ℕ) (a : List ℕ) (j : ℕ) where
   abbrev Holds : Matrix → Type 0
   Holds R = HoldsBest (language cs) n A R j
 
-  module _ (g : Lawfully l n a) where
+  module _ (g : LawfulNetwork l n a) where
     -- the best solves the equation of its column
     solved : (R : Matrix) → Holds R → (i : ℕ) → i < n → R i j ≡ routed (language cs) n A R i j
     unfolding net network
@@ -77,7 +77,7 @@ module _ (l : Language) (n : ℕ) (a : List ℕ) (j : ℕ) where
       where
         go : (c : Check) → stepsCheck l n a r list ≡ c → BestColumn l n a (stepsLeftBy c n (runOf cs n A (matrixOf l n r) (map stepOf list)) r) j
         go Passed p =
-            let g = call-lawfully l n a r (manyCheck list ∷ listCheck n list ∷ []) limits p in
+            let g = call-lawful l n a r (manyCheck list ∷ listCheck n list ∷ []) limits p in
             words-keep g (runOf cs n A (matrixOf l n r) (map stepOf list)) hj (run-keeps g (map stepOf list) (matrixOf l n r) b)
         go (Refused x) p = b
 

@@ -18,42 +18,31 @@ use Rattle.algebra.proofs.Bests.{best-is, best-unique}
 use Rattle.algebra.proofs.Settling.{best-by-sweeps}
 use Rattle.weights.specs.declared.Component.{Component}
 use Rattle.weights.specs.declared.Language.{Language}
-use Rattle.weights.specs.Sizes.{places, arcSum, matrixSum}
+use Rattle.weights.specs.Sizes.{arcSum, matrixSum}
 use Rattle.weights.specs.Weights.{Weight, Sound, language}
 use Rattle.weights.specs.Laws.{testD, testU}
-use Rattle.weights.specs.Languages.{componentsOf, countCheck, limitCheck, SmallLimits}
+use Rattle.weights.specs.Languages.{componentsOf, SmallLimits}
 use Rattle.weights.specs.Words.{words, decoded}
-use Rattle.weights.proofs.Padding.{words-pad}
 use Rattle.weights.proofs.Checking.{few, limits-exact}
-use Rattle.matrices.specs.Buffers.{matrixWords, matrixIn, cell, wordsAt, entryPlace, Formed}
+use Rattle.matrices.specs.Buffers.{matrixWords, cell, wordsAt, entryPlace, Formed}
 use Rattle.matrices.specs.Steps.{Matrix}
-use Rattle.matrices.proofs.Blocks.{blocks-cong}
-use Rattle.matrices.proofs.Entries.{matrix-self, matrix-cong, matrix-four}
+use Rattle.matrices.proofs.Entries.{matrix-cong, matrix-four}
 use Rattle.matrices.proofs.Malformed.{check-formed}
-use Rattle.routes.specs.Checks.{nodesCheck, lengthCheck, lawDCheck, lawUCheck, arcsCheck}
 use Rattle.routes.specs.Calls.{matrixOf, matricesChecks}
 use Rattle.routes.proofs.Order.{nodes-passed, length-passed, unless-passes}
-use Rattle.routes.proofs.Bridge.{entry-padded}
 use Rattle.histories.proofs.Reached.{network, reached-formed, reached-reads}
+use Rattle.histories.proofs.Standing.{words-self}
 use Rattle.handover.specs.Calls.{bestWords, isBest}
 use Rattle.handover.proofs.Words.{words-exactly}
-use Rattle.handovers.specs.Handovers.{Lawfully, EveryEntryBest}
+use Rattle.handovers.specs.Handovers.{LawfulNetwork, EveryEntryBest}
 
 -- a call on A and R gives it
-pub call-lawfully : (l : Language) (n : ℕ) (a r : List ℕ) (rest : List Check) → SmallLimits 65535 (componentsOf l) → firstOf (matricesChecks l n a r rest) ≡ Passed → Lawfully l n a
-call-lawfully l n a r rest limits p =
+pub call-lawful : (l : Language) (n : ℕ) (a r : List ℕ) (rest : List Check) → SmallLimits 65535 (componentsOf l) → firstOf (matricesChecks l n a r rest) ≡ Passed → LawfulNetwork l n a
+call-lawful l n a r rest limits p =
     let h = first-passes (matricesChecks l n a r rest) p in
     record { nodes = h .0; count = h .1 .0; sound = h .1 .1 .0; long = h .1 .1 .1 .0; law-D = h .1 .1 .1 .1 .1 .0; law-U = h .1 .1 .1 .1 .1 .1 .0; arcs = h .1 .1 .1 .1 .1 .1 .1 .0; limits = limits }
 
--- a matrix without a malformed entry has the words of its entries
-pub formed-words : (l : Language) (cap n : ℕ) (s : List ℕ) → Formed cap (componentsOf l) n s → matrixWords n (matrixOf l n s) ≡ s
-formed-words l cap n s f =
-    matrix-words (λ i j hi hj. sym (words-pad (matrixOf l n s i j)) ∙ ap words (entry-padded cap (componentsOf l) n s (few l) f i j hi hj)) ∙ matrix-self n s (f .square)
-  where
-    matrix-words : ((i j : ℕ) → i < n → j < n → words (matrixOf l n s i j) ≡ words (matrixIn places n s i j)) → matrixWords n (matrixOf l n s) ≡ matrixWords n (matrixIn places n s)
-    matrix-words e = blocks-cong _ _ n (λ i hi. blocks-cong _ _ n (λ j hj. e i j hi hj))
-
-module _ (l : Language) (n : ℕ) (a : List ℕ) (g : Lawfully l n a) where
+module _ (l : Language) (n : ℕ) (a : List ℕ) (g : LawfulNetwork l n a) where
   abbrev cs : List Component
   cs = componentsOf l
 
@@ -125,5 +114,5 @@ module _ (l : Language) (n : ℕ) (a : List ℕ) (g : Lawfully l n a) where
 
       back : EveryEntryBest l n a s → isBest l n a s ≡ true
       back b =
-          words-exactly s (bestWords l n a) .1 (sym (formed-words l matrixSum n s (b .formed))
+          words-exactly s (bestWords l n a) .1 (sym (words-self matrixSum cs n s (few l) (b .formed))
           ∙ matrix-cong n (matrixOf l n s) (best (language cs) n A) (λ i j hi hj. only-best i j hi (matrixOf l n s i j) (b .best i j hi hj)))

@@ -9,37 +9,20 @@ use Rattle.refusals.specs.declared.Check.the-variants.{Passed}
 use Rattle.refusals.specs.Told.{done}
 use Rattle.algebra.specs.Order.{pick, bestOf}
 use Rattle.algebra.specs.Best.{best, bestAmong}
-use Rattle.algebra.specs.Step.{fresh, routed}
-use Rattle.weights.specs.declared.Component.the-variants.{Dist, Width}
-use Rattle.weights.specs.declared.Language.{Language}
-use Rattle.weights.specs.Weights.{language}
-use Rattle.weights.specs.Languages.{componentsOf}
+use Rattle.algebra.specs.Step.{routed}
 use Rattle.weights.specs.Words.{words}
-use Rattle.matrices.specs.Buffers.{blocks, cell, firstMalformed, matrixWords}
+use Rattle.matrices.specs.Buffers.{blocks, cell, firstMalformed}
 use Rattle.matrices.specs.Steps.{every}
 use Rattle.matrices.proofs.Entries.{length-matrix}
 use Rattle.routes.specs.Calls.{stepsLeft}
-use Rattle.histories.proofs.Worked.{depotArcs, depotRoutes}
-use Rattle.handover.specs.Calls.{handoverCheck, isBest, lenderRowBy, lenderRow, rowPart, lentRow, NotEnough}
-use Rattle.handovers.specs.Handovers.{RowsOnly}
+use Rattle.histories.specs.Examples.{depotRoutes, depotLanguage, depotArcWords, depotRouteWords, depotFreshWords}
+use Rattle.handover.specs.Calls.{handoverCheck, isBest, lenderRowBy, lenderRow, rowPart, lentRow}
+use Rattle.handovers.specs.Handovers.{RowsOnly, NotEnough}
 use Rattle.handovers.proofs.Recipe.{sweeping-never-repairs}
-use Rattle.handovers.proofs.Lent.{handover-passes, standing-row-lent, handover-lawfully}
-
--- width 10, three nodes; the standing matrix is the fresh one
-abbrev pub depotLanguage : Language
-depotLanguage = record { count = 1; first = Width 10; second = Dist; third = Dist; fourth = Dist }
-
-abbrev pub arcWords : List ℕ
-arcWords = matrixWords 3 depotArcs
-
-abbrev pub newWords : List ℕ
-newWords = matrixWords 3 depotRoutes
-
-abbrev pub standingWords : List ℕ
-standingWords = matrixWords 3 (fresh (language (componentsOf depotLanguage)))
+use Rattle.handovers.proofs.Lent.{handover-passes, standing-row-lent, handover-lawful}
 
 -- Satisfying the equation is not enough: the standing row is lent, and it is another.
-pub depots-not-enough : NotEnough depotLanguage 3 arcWords standingWords newWords 0
+pub depots-not-enough : NotEnough depotLanguage 3 depotArcWords depotFreshWords depotRouteWords 0
 unfolding blocks words cell firstMalformed every routed bestOf pick best bestAmong
 depots-not-enough = record {
   passes = refl;
@@ -49,26 +32,26 @@ depots-not-enough = record {
 }
 
 -- The depots' matrix fails the test of a handover ..
-depots-not-best : isBest depotLanguage 3 arcWords newWords ≡ false
+depots-not-best : isBest depotLanguage 3 depotArcWords depotRouteWords ≡ false
 unfolding blocks words cell best bestAmong pick
 depots-not-best = refl
 
 -- .. and the checks pass, for every standing matrix of the right length and every node.
-depots-pass : (standing : List ℕ) (i : ℕ) → length standing ≡ 36 → i < 3 → handoverCheck depotLanguage 3 arcWords standing newWords i ≡ Passed
+depots-pass : (standing : List ℕ) (i : ℕ) → length standing ≡ 36 → i < 3 → handoverCheck depotLanguage 3 depotArcWords standing depotRouteWords i ≡ Passed
 depots-pass standing i e h =
-    handover-passes depotLanguage 3 arcWords standing newWords i (handover-lawfully depotLanguage 3 arcWords standingWords newWords 0 (omega arith, tt) (depots-not-enough .passes)) (length-matrix 3 depotRoutes) e h
+    handover-passes depotLanguage 3 depotArcWords standing depotRouteWords i (handover-lawful depotLanguage 3 depotArcWords depotFreshWords depotRouteWords 0 (omega arith, tt) (depots-not-enough .passes)) (length-matrix 3 depotRoutes) e h
 
 -- So the standing matrix lends, whatever it holds ..
-pub depots-lender-standing : (standing : List ℕ) (i : ℕ) → length standing ≡ 36 → i < 3 → lenderRow depotLanguage 3 arcWords standing newWords i ≡ record { told = done; buffer = 5 }
+pub depots-lender-standing : (standing : List ℕ) (i : ℕ) → length standing ≡ 36 → i < 3 → lenderRow depotLanguage 3 depotArcWords standing depotRouteWords i ≡ record { told = done; buffer = 5 }
 depots-lender-standing standing i e h = ap₂ lenderRowBy (depots-pass standing i e h) depots-not-best
 
-pub depots-lend-standing : (standing : List ℕ) (i : ℕ) → length standing ≡ 36 → i < 3 → lentRow depotLanguage 3 arcWords standing newWords i ≡ rowPart 3 i standing
-depots-lend-standing standing i e h = standing-row-lent depotLanguage 3 arcWords standing newWords i (depots-pass standing i e h) depots-not-best
+pub depots-lend-standing : (standing : List ℕ) (i : ℕ) → length standing ≡ 36 → i < 3 → lentRow depotLanguage 3 depotArcWords standing depotRouteWords i ≡ rowPart 3 i standing
+depots-lend-standing standing i e h = standing-row-lent depotLanguage 3 depotArcWords standing depotRouteWords i (depots-pass standing i e h) depots-not-best
 
 -- .. even where it is that very matrix.
-pub depots-lender-same : (i : ℕ) → i < 3 → lenderRow depotLanguage 3 arcWords newWords newWords i ≡ record { told = done; buffer = 5 }
-depots-lender-same i h = depots-lender-standing newWords i (length-matrix 3 depotRoutes) h
+pub depots-lender-same : (i : ℕ) → i < 3 → lenderRow depotLanguage 3 depotArcWords depotRouteWords depotRouteWords i ≡ record { told = done; buffer = 5 }
+depots-lender-same i h = depots-lender-standing depotRouteWords i (length-matrix 3 depotRoutes) h
 
 -- Sweeping the depots' matrix never repairs it, however long the list.
-pub depots-never-repaired : (list : List ℕ) → RowsOnly 3 list → stepsLeft depotLanguage 3 arcWords newWords list ≡ newWords
-depots-never-repaired list rows = sweeping-never-repairs depotLanguage 3 arcWords newWords list (depots-not-enough .satisfies) rows
+pub depots-never-repaired : (list : List ℕ) → RowsOnly 3 list → stepsLeft depotLanguage 3 depotArcWords depotRouteWords list ≡ depotRouteWords
+depots-never-repaired list rows = sweeping-never-repairs depotLanguage 3 depotArcWords depotRouteWords list (depots-not-enough .satisfies) rows

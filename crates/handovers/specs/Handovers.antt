@@ -1,7 +1,9 @@
--- What is said of handovers: when every entry is the best, and lists of steps that repair a matrix or cannot.
+-- What is said of handovers: when every entry is the best, lists of steps that repair a matrix or cannot, and why the equation alone
+-- is not enough.
 -- To be believed: all of it. The theorems are in proofs/Tested, Recipe, Stays, Lent, Settles and Worked.
 use Prim.Native.Nat.{ℕ, zero, suc, _+_, _≤_, _<_}
 use mathlib.Core.Path.{_≡_}
+use mathlib.Core.Bool.{true}
 use mathlib.Core.List.{List, [], _∷_, _++_}
 use Rattle.refusals.specs.declared.Check.the-variants.{Passed}
 use Rattle.algebra.specs.Path.{Mem}
@@ -11,17 +13,15 @@ use Rattle.weights.specs.Sizes.{matrixSum}
 use Rattle.weights.specs.Weights.{language}
 use Rattle.weights.specs.Languages.{componentsOf, countCheck, limitCheck, SmallLimits}
 use Rattle.matrices.specs.Buffers.{Formed}
+use Rattle.matrices.specs.Steps.{solves}
 use Rattle.routes.specs.Checks.{firstSettle, nodesCheck, lengthCheck, lawDCheck, lawUCheck, arcsCheck}
 use Rattle.routes.specs.Calls.{matrixOf}
+use Rattle.handover.specs.Calls.{handoverCheck, rowPart, lentRow}
 
 -- every entry of the matrix in s is the best weight over paths that visit no node twice, and none is malformed
 pub record EveryEntryBest (l : Language) (n : ℕ) (a s : List ℕ) : Type 0 where
   pub formed : Formed matrixSum (componentsOf l) n s
   pub best : (i j : ℕ) → i < n → j < n → Best (language (componentsOf l)) n (matrixOf l n a) i j (matrixOf l n s i j)
-
--- column j of the matrix in s holds the best weights over paths that visit no node twice
-abbrev pub BestColumn : Language → ℕ → List ℕ → List ℕ → ℕ → Type 0
-BestColumn l n a s j = (i : ℕ) → i < n → Best (language (componentsOf l)) n (matrixOf l n a) i j (matrixOf l n s i j)
 
 -- every number of the list is a row step
 abbrev pub RowsOnly : ℕ → List ℕ → Type 0
@@ -43,7 +43,7 @@ abbrev pub SettlesAll : ℕ → List ℕ → Type 0
 SettlesAll n list = (j : ℕ) → j < n → Mem (firstSettle + j) list
 
 -- what the checks of every call on A give: a lawful language whose limits are 16-bit numbers, n, and well-formed arcs
-pub record Lawfully (l : Language) (n : ℕ) (a : List ℕ) : Type 0 where
+pub record LawfulNetwork (l : Language) (n : ℕ) (a : List ℕ) : Type 0 where
   pub nodes : nodesCheck n ≡ Passed
   pub count : countCheck l ≡ Passed
   pub sound : limitCheck l ≡ Passed
@@ -52,3 +52,10 @@ pub record Lawfully (l : Language) (n : ℕ) (a : List ℕ) : Type 0 where
   pub law-U : lawUCheck (componentsOf l) ≡ Passed
   pub arcs : arcsCheck (componentsOf l) n a ≡ Passed
   pub limits : SmallLimits 65535 (componentsOf l)
+
+-- "Satisfying the routing equation is not enough": the new matrix satisfies the equation, and yet the row that is lent is the standing one's, which is another
+pub record NotEnough (l : Language) (n : ℕ) (a standing newer : List ℕ) (i : ℕ) : Type 0 where
+  pub passes : handoverCheck l n a standing newer i ≡ Passed
+  pub satisfies : solves (componentsOf l) n (matrixOf l n a) (matrixOf l n newer) ≡ true
+  pub lends : lentRow l n a standing newer i ≡ rowPart n i standing
+  pub another : rowPart n i newer ≡ rowPart n i standing → ⊥

@@ -1,1 +1,2 @@
 pub mod Handovers
+pub mod Exact

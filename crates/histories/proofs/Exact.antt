@@ -1,53 +1,34 @@
--- Each refusal exactly in its case: a check's refusal where the check gives it and all before it pass; 10 where the law itself
--- fails over all weights; 11 at the first row step that would store a sum above 983,025.
-use Prim.Native.Nat.{ℕ, zero, suc, _≤_, _<_}
-use mathlib.Core.Path.{_≡_, refl, sym, ap, subst, _∙_}
+-- A call refuses what one of its checks gives where all before it pass, and the step call besides 11: at the first row step that
+-- would store a sum above 983,025.
+use Prim.Native.Nat.{ℕ, zero, suc, _<_}
+use mathlib.Core.Path.{_≡_, refl, sym, ap, _∙_}
 use mathlib.Core.Bool.{Bool, true, false, cond}
-use mathlib.Core.List.{List, [], _∷_, _++_, map}
+use mathlib.Core.List.{List, [], _∷_, map}
 use mathlib.Core.Logic.{_⊎_, inl, inr, _↔_}
 use native.Mathlib.Omega.{arith}
 use lib.Dec.{ltb}
 use lib.ListN.{length}
 use borrow.Author.Tests.{ltb-true, lt-ltb}
 use Rattle.refusals.specs.declared.Refusal.{Refusal}
-use Rattle.refusals.specs.declared.Refusal.the-variants.{Law, Sum}
+use Rattle.refusals.specs.declared.Refusal.the-variants.{Sum}
 use Rattle.refusals.specs.declared.Check.{Check}
 use Rattle.refusals.specs.declared.Check.the-variants.{Passed, Refused}
 use Rattle.refusals.specs.Told.{told, done}
-use Rattle.refusals.specs.Checks.{unless, firstOf, checkTold, Gives}
+use Rattle.refusals.specs.Checks.{firstOf, checkTold, Gives}
 use Rattle.refusals.proofs.OneToOne.{told-one, told-not-done}
 use Rattle.refusals.proofs.First.{first-exactly}
-use Rattle.refusals.proofs.Exactly.{told-check, unless-refuses}
-use Rattle.algebra.specs.Step.{Step, row, step}
+use Rattle.refusals.proofs.Exactly.{told-check}
+use Rattle.algebra.specs.Step.{Step, step}
 use Rattle.weights.specs.declared.Component.{Component}
 use Rattle.weights.specs.declared.Language.{Language}
-use Rattle.weights.specs.Weights.{Sound, language}
-use Rattle.weights.specs.Laws.{LawD, LawU, testD, testU}
+use Rattle.weights.specs.Weights.{language}
 use Rattle.weights.specs.Languages.{componentsOf, countCheck, limitCheck}
-use Rattle.weights.proofs.Decided.{D-exact, U-exact}
-use Rattle.weights.proofs.Ordering.{clash}
 use Rattle.matrices.specs.Steps.{Matrix, solves}
 use Rattle.routes.specs.Checks.{nodesCheck, lengthCheck, lawDCheck, lawUCheck, manyCheck, listCheck}
 use Rattle.histories.specs.Exact.{StepOver, StopsAt, Eleven}
 use Rattle.histories.proofs.Reached.{length-steps}
 use Rattle.histories.proofs.Over.{step-over, step-fits}
-use Rattle.routes.specs.Calls.{matrixOf, freshCheck, matricesChecks, stepOf, stepFits, runOf, doneOf, StepsRow, ranRow, stepsRowBy, stepsRow, equationCheck, equationRow, equationRowBy, EquationRow}
-
--- ---- 10: the law itself fails
-
-by-test : {b : Bool} {P : Type 0} → (b ≡ true) ↔ P → (b ≡ false) ↔ (P → ⊥)
-by-test {b} {P} x = (λ e p. clash b (x .1 p) e, λ f. go b refl f)
-  where
-    go : (c : Bool) → b ≡ c → (P → ⊥) → b ≡ false
-    go true e f = absurd (f (x .0 e))
-    go false e f = e
-
--- law D (U) is refused exactly where it fails over all weights
-pub law-D-missing : (cs : List Component) → Sound cs → (lawDCheck cs ≡ Refused (Law 1 0)) ↔ (LawD cs → ⊥)
-law-D-missing cs s = (λ e. by-test (D-exact cs s) .0 (unless-refuses (testD cs) (Law 1 0) (Law 1 0) e .0), λ f. ap (λ (b : Bool). unless b (Law 1 0)) (by-test (D-exact cs s) .1 f))
-
-pub law-U-missing : (cs : List Component) → Sound cs → (lawUCheck cs ≡ Refused (Law 2 0)) ↔ (LawU cs → ⊥)
-law-U-missing cs s = (λ e. by-test (U-exact cs s) .0 (unless-refuses (testU cs) (Law 2 0) (Law 2 0) e .0), λ f. ap (λ (b : Bool). unless b (Law 2 0)) (by-test (U-exact cs s) .1 f))
+use Rattle.routes.specs.Calls.{matrixOf, freshCheck, matricesChecks, stepOf, stepFits, doneOf, rowAfterRun, stepsRowBy, stepsRow, equationCheck, equationRow, equationRowBy}
 
 -- ---- a call refuses r exactly when one of its checks gives r and all before it pass
 
@@ -113,7 +94,7 @@ module _ (l : Language) (n : ℕ) (a r list : List ℕ) (x : Refusal) where
       stopped (p, (k, q, s)) =
           let h = stops-exactly (componentsOf l) n (matrixOf l n a) (matrixOf l n r) k (map stepOf list) .1 s in
           let m : k < length list = rw (length-steps list) at (h .1) in
-          ap (λ (c : Check). stepsRowBy c count (length list) .told) p ∙ ap (λ (m : ℕ). ranRow m (length list) .told) (h .0) ∙ rw (lt-ltb k (length list) m) (ap told (sym q))
+          ap (λ (c : Check). stepsRowBy c count (length list) .told) p ∙ ap (λ (m : ℕ). rowAfterRun m (length list) .told) (h .0) ∙ rw (lt-ltb k (length list) m) (ap told (sym q))
 
       back : Gives checks x ⊎ Eleven l n a r list x → stepsRow l n a r list .told ≡ told x
       back (inl g) = ap (λ (c : Check). stepsRowBy c count (length list) .told) (first-exactly checks x .1 g)

@@ -1,13 +1,13 @@
 -- Every history of calls meets demand 3.
-use Prim.Native.Nat.{ℕ, zero, suc, _+_, _-_, _≤_, _<_}
+use Prim.Native.Nat.{ℕ, _+_, _-_, _≤_, _<_}
 use mathlib.Core.Path.{_≡_, refl, sym, ap, ap₂, subst, _∙_}
-use mathlib.Core.Bool.{Bool, true, false, cond}
+use mathlib.Core.Bool.{true, false, cond}
 use mathlib.Core.List.{List, [], _∷_, _++_, map, append-assoc, append-nil}
-use mathlib.Core.Logic.{_⊎_, inl, inr}
+use mathlib.Core.Logic.{inl, inr}
 use native.Mathlib.Omega.{arith}
-use lib.Dec.{eqb, ltb}
+use lib.Dec.{eqb}
 use lib.ListN.{length, length-append}
-use borrow.Author.Tests.{le-ltb, eq-eqb}
+use borrow.Author.Tests.{le-ltb}
 use Rattle.refusals.specs.declared.Refusal.{Refusal}
 use Rattle.refusals.specs.declared.Check.{Check}
 use Rattle.refusals.specs.declared.Check.the-variants.{Passed, Refused}
@@ -18,25 +18,25 @@ use Rattle.refusals.proofs.First.{first-passes, pass-first}
 use Rattle.algebra.specs.Network.{Network}
 use Rattle.algebra.specs.Path.{Mem}
 use Rattle.algebra.specs.Best.{Best, best}
-use Rattle.algebra.specs.Step.{Step, settle, Stretches, fresh, reached}
+use Rattle.algebra.specs.Step.{Step, settle, fresh, reached}
 use Rattle.algebra.specs.Demand.{Demand3}
 use Rattle.algebra.proofs.Reach.{never-worse}
 use Rattle.algebra.proofs.Demands.{demand-3}
 use Rattle.weights.specs.declared.Component.{Component}
 use Rattle.weights.specs.declared.Language.{Language}
-use Rattle.weights.specs.Sizes.{places, weightWords, arcSum, matrixSum}
+use Rattle.weights.specs.Sizes.{arcSum, matrixSum}
 use Rattle.weights.specs.Weights.{Weight, better, language}
 use Rattle.weights.specs.Laws.{testD, testU}
-use Rattle.weights.specs.Languages.{componentsOf, countCheck, limitCheck, languageCheck}
+use Rattle.weights.specs.Languages.{componentsOf, countCheck, limitCheck}
 use Rattle.weights.proofs.Checking.{few, limits-exact}
-use Rattle.matrices.specs.Buffers.{matrixWords, matrixIn, Square, Formed}
+use Rattle.matrices.specs.Buffers.{matrixWords, Formed}
 use Rattle.matrices.specs.Steps.{Matrix}
 use Rattle.matrices.proofs.Entries.{matrix-cong, length-matrix}
 use Rattle.matrices.proofs.Malformed.{check-formed, formed-check}
-use Rattle.routes.specs.Checks.{firstSettle, mostSteps, nodesCheck, lengthCheck, lawDCheck, lawUCheck, arcsCheck, routesCheck, manyCheck, listCheck}
-use Rattle.routes.specs.Calls.{matrixOf, freshCheck, freshLeftBy, freshLeft, stepOf, runOf, doneOf, matricesChecks, stepsCheck, StepsRow, ranRow, stepsRowBy, stepsRow, stepsLeftBy, stepsLeft}
+use Rattle.routes.specs.Checks.{firstSettle, mostSteps, nodesCheck, lengthCheck, lawDCheck, lawUCheck, manyCheck, listCheck}
+use Rattle.routes.specs.Calls.{matrixOf, freshLeftBy, freshLeft, stepOf, runOf, doneOf, matricesChecks, stepsCheck, StepsRow, rowAfterRun, stepsRowBy, stepsRow, stepsLeftBy, stepsLeft}
 use Rattle.routes.specs.Ready.{AllSteps}
-use Rattle.histories.specs.History.{addedBy, afterCalls, soFar, Begun, held, ran, ColumnBest, HistoryDemand3}
+use Rattle.histories.specs.History.{addedBy, afterCalls, soFar, HistoryBegun, held, ran, HistoryDemand3}
 use Rattle.routes.proofs.Order.{goes-on, matrices-rest, nodes-passed, length-same, length-passed, unless-passes}
 use Rattle.routes.proofs.Lists.{all-in, list-passed, passed-list, all-front, all-back}
 use Rattle.histories.proofs.Reached.{length-steps, network, reached-formed, reached-reads, runs-on}
@@ -56,7 +56,7 @@ mem-steps x [] m = m
 mem-steps x (y ∷ xs) (inl e) = inl (ap stepOf e)
 mem-steps x (y ∷ xs) (inr m) = inr (mem-steps x xs m)
 
-module _ (l : Language) (n : ℕ) (a r : List ℕ) (b : Begun l n a r) where
+module _ (l : Language) (n : ℕ) (a r : List ℕ) (b : HistoryBegun l n a r) where
   abbrev cs : List Component
   cs = componentsOf l
 
@@ -115,7 +115,7 @@ module _ (l : Language) (n : ℕ) (a r : List ℕ) (b : Begun l n a r) where
       done-row : stepsRow l n a (mw xs) list ≡ record { told = done; done = length list }
       done-row =
           ap (λ (c : Check). stepsRowBy c (doneOf cs n A (matrixOf l n (mw xs)) (map stepOf list)) (length list)) e
-          ∙ ap (λ (k : ℕ). ranRow k (length list)) (runs .0 ∙ length-steps list)
+          ∙ ap (λ (k : ℕ). rowAfterRun k (length list)) (runs .0 ∙ length-steps list)
           ∙ rw (le-ltb (length list) (length list) (omega arith))
 
       done-added : addedBy l n a (mw xs) list ≡ list

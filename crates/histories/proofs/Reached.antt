@@ -1,10 +1,10 @@
 -- Step calls on a matrix that steps reached from fresh: it passes its check, no row step is refused 11, and the run is the steps' own.
-use Prim.Native.Nat.{ℕ, zero, suc, _+_, _*_, _≤_, _<_}
-use mathlib.Core.Path.{_≡_, refl, sym, ap, ap₂, subst, _∙_}
-use mathlib.Core.Bool.{Bool, true, false, cond, _&&_}
+use Prim.Native.Nat.{ℕ, suc, _≤_, _<_}
+use mathlib.Core.Path.{_≡_, refl, sym, ap, ap₂, _∙_}
+use mathlib.Core.Bool.{true, cond}
 use mathlib.Core.List.{List, [], _∷_, _++_, map, append-assoc, append-nil}
 use native.Mathlib.Omega.{arith}
-use lib.Dec.{eqb, leb}
+use lib.Dec.{eqb}
 use lib.ListN.{length}
 use borrow.Author.Tests.{le-leb}
 use Rattle.algebra.specs.Network.{Network}
@@ -16,18 +16,18 @@ use Rattle.algebra.proofs.Reach.{entry-held, run-append}
 use Rattle.algebra.proofs.Still.{Agree, routed-agree}
 use Rattle.weights.specs.declared.Component.{Component}
 use Rattle.weights.specs.declared.Component.the-variants.{Dist, Width, Class, Gain}
-use Rattle.weights.specs.Sizes.{places, weightWords, ones, arcSum, matrixSum}
+use Rattle.weights.specs.Sizes.{places, ones, arcSum, matrixSum}
 use Rattle.weights.specs.Weights.{Weight, none, route, Valid, ValidValues, Sound, language}
 use Rattle.weights.specs.Laws.{testD, testU}
 use Rattle.weights.specs.Languages.{SmallLimits}
 use Rattle.weights.specs.Words.{words, reading, isGood, decoded}
 use Rattle.weights.proofs.Languages.{lawful}
-use Rattle.weights.proofs.Readings.{NotOnes, reads-back, SumsUpTo, WeightUpTo, Written, reads-words, well-read}
+use Rattle.weights.proofs.Readings.{reads-back, SumsUpTo, Written, reads-words, well-read}
 use Rattle.weights.specs.Sums.{sumOf, sumAt}
 use Rattle.weights.proofs.Sums.{sum-size, well-sum}
-use Rattle.matrices.specs.Buffers.{matrixWords, cell, wordsAt, entryPlace, matrixIn, Square, Formed}
-use Rattle.matrices.specs.Steps.{Matrix, sumFits, sumsFit, weightFits, every, rowFits}
-use Rattle.matrices.proofs.Entries.{matrix-four, matrix-cong, length-matrix}
+use Rattle.matrices.specs.Buffers.{matrixWords, cell, wordsAt, entryPlace, matrixIn, Formed}
+use Rattle.matrices.specs.Steps.{Matrix, sumsFit, weightFits, every, rowFits}
+use Rattle.matrices.proofs.Entries.{matrix-four, length-matrix}
 use Rattle.matrices.proofs.Every.{every-cong, every-all}
 use Rattle.routes.specs.Calls.{stepOf, stepFits, runOf, doneOf}
 use Rattle.routes.proofs.Bridge.{StepIn, StepsIn, entry-valid}

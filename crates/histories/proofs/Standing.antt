@@ -2,19 +2,16 @@
 -- leaves.
 use Prim.Native.Nat.{ℕ, zero, suc, _≤_, _<_}
 use mathlib.Core.Path.{_≡_, refl, sym, ap, subst, _∙_}
-use mathlib.Core.Bool.{Bool, true, false, cond}
-use mathlib.Core.List.{List, [], _∷_, _++_, map}
+use mathlib.Core.List.{List, [], _∷_, map}
 use native.Mathlib.Omega.{arith}
-use lib.Dec.{ltb}
 use lib.ListN.{length, take, drop, take-append-drop}
 use lib.Seq.{length-take-le}
 use borrow.Author.Tests.{le-ltb}
-use Rattle.refusals.specs.declared.Refusal.{Refusal}
 use Rattle.refusals.specs.declared.Refusal.the-variants.{Sum}
 use Rattle.refusals.specs.declared.Check.{Check}
 use Rattle.refusals.specs.declared.Check.the-variants.{Passed, Refused}
 use Rattle.refusals.specs.Told.{told, done}
-use Rattle.refusals.specs.Checks.{firstOf, Pass}
+use Rattle.refusals.specs.Checks.{Pass}
 use Rattle.refusals.proofs.First.{first-passes, pass-first}
 use Rattle.algebra.specs.Step.{Step, step}
 use Rattle.weights.specs.declared.Component.{Component}
@@ -31,7 +28,7 @@ use Rattle.matrices.proofs.Blocks.{blocks-cong}
 use Rattle.matrices.proofs.Entries.{matrix-self}
 use Rattle.matrices.proofs.Malformed.{check-formed}
 use Rattle.routes.specs.Checks.{mostSteps, manyCheck, listCheck}
-use Rattle.routes.specs.Calls.{matrixOf, matricesChecks, stepOf, stepFits, runOf, doneOf, stepsCheck, StepsRow, ranRow, stepsRowBy, stepsRow, stepsLeftBy, stepsLeft}
+use Rattle.routes.specs.Calls.{matrixOf, matricesChecks, stepOf, runOf, doneOf, stepsCheck, rowAfterRun, stepsRowBy, stepsRow, stepsLeftBy, stepsLeft}
 use Rattle.routes.specs.Ready.{AllSteps}
 use Rattle.routes.proofs.Order.{nodes-passed, length-passed}
 use Rattle.routes.proofs.Lists.{list-passed, passed-list, all-front}
@@ -117,8 +114,8 @@ module _ (l : Language) (n : ℕ) (a r list : List ℕ) (k : ℕ) (e : stepsRow 
   first-done =
       let len : length (take k list) ≡ k = length-take-le k list (omega (arith, below)) in
       ap (λ (c : Check). stepsRowBy c (doneOf cs n A R (map stepOf (take k list))) (length (take k list))) front
-      ∙ ap (λ (m : ℕ). ranRow (doneOf cs n A R (map stepOf (take k list))) m) len
-      ∙ ap (λ (m : ℕ). ranRow m k) (ap (doneOf cs n A R) (map-take k list) ∙ stops-done cs n A R k (map stepOf list) stops)
+      ∙ ap (λ (m : ℕ). rowAfterRun (doneOf cs n A R (map stepOf (take k list))) m) len
+      ∙ ap (λ (m : ℕ). rowAfterRun m k) (ap (doneOf cs n A R) (map-take k list) ∙ stops-done cs n A R k (map stepOf list) stops)
       ∙ rw (le-ltb k k (omega arith))
 
   -- .. and leaves what the call that is refused 11 at step k leaves

@@ -1,42 +1,49 @@
--- What refusals 10, 6 and 11 of the calls say, in terms of the laws, the entries and the sums.
+-- The refusals of fresh, each with its case, and refusal 11: a row step that would store a sum above 983,025. The refusals that the
+-- calls on A and R share are in routes/specs/Exact.
 -- To be believed: all of it. That the calls give them exactly then is proofs/Exact and proofs/Cases.
 use Prim.Native.Nat.{ℕ, zero, suc, _<_}
 use mathlib.Core.Path.{_≡_}
 use mathlib.Core.List.{List, [], _∷_, map}
-use mathlib.Core.Logic.{_⊎_}
+use mathlib.Core.Logic.{_⊎_, _↔_}
 use Rattle.refusals.specs.declared.Refusal.{Refusal}
-use Rattle.refusals.specs.declared.Refusal.the-variants.{Sum}
+use Rattle.refusals.specs.declared.Refusal.the-variants.{Size, BadComponent, BadCount, Length, Law, Sum}
 use Rattle.refusals.specs.declared.Check.{Check}
 use Rattle.refusals.specs.declared.Check.the-variants.{Passed}
+use Rattle.refusals.specs.declared.Told.{Told}
+use Rattle.refusals.specs.Told.{told}
+use Rattle.refusals.specs.Checks.{Pass}
 use Rattle.algebra.specs.Step.{Step, row, routed, step}
 use Rattle.weights.specs.declared.Component.{Component}
 use Rattle.weights.specs.declared.Component.the-variants.{Dist, Width, Class, Gain}
 use Rattle.weights.specs.declared.Language.{Language}
 use Rattle.weights.specs.Sizes.{matrixSum}
-use Rattle.weights.specs.Weights.{Weight, none, route, language}
+use Rattle.weights.specs.Weights.{Weight, none, route, SoundLimit, language}
+use Rattle.weights.specs.Laws.{LawD, LawU}
 use Rattle.weights.specs.Languages.{componentsOf, countCheck, limitCheck}
 use Rattle.matrices.specs.Steps.{Matrix}
-use Rattle.routes.specs.Checks.{nodesCheck, lengthCheck, lawDCheck, lawUCheck, arcsCheck}
+use Rattle.routes.specs.Checks.{nodesCheck, lengthCheck}
 use Rattle.routes.specs.Calls.{matrixOf, stepOf, stepsCheck}
+use Rattle.routes.specs.Exact.{NodesInRange, CountInRange, MatrixLong, FirstNot, nodesAndLanguage}
 
--- ---- the checks before refusals 10 and 6
+-- ---- fresh
 
 -- 3, 5, 4, 9 of fresh
 abbrev pub freshSizes : Language → ℕ → List ℕ → List Check
 freshSizes l n r = nodesCheck n ∷ countCheck l ∷ limitCheck l ∷ lengthCheck 2 n r ∷ []
 
--- 3, 5, 4, 9 of a call on A and R
-abbrev pub sizes : Language → ℕ → List ℕ → List ℕ → List Check
-sizes l n a r = nodesCheck n ∷ countCheck l ∷ limitCheck l ∷ lengthCheck 1 n a ∷ lengthCheck 2 n r ∷ []
-
--- .. and 10
-abbrev pub sizesAndLaws : Language → ℕ → List ℕ → List ℕ → List Check
-sizesAndLaws l n a r = nodesCheck n ∷ countCheck l ∷ limitCheck l ∷ lengthCheck 1 n a ∷ lengthCheck 2 n r ∷ lawDCheck (componentsOf l) ∷ lawUCheck (componentsOf l) ∷ []
-
--- .. and 6 on A
-abbrev pub sizesLawsAndArcs : Language → ℕ → List ℕ → List ℕ → List Check
-sizesLawsAndArcs l n a r =
-    nodesCheck n ∷ countCheck l ∷ limitCheck l ∷ lengthCheck 1 n a ∷ lengthCheck 2 n r ∷ lawDCheck (componentsOf l) ∷ lawUCheck (componentsOf l) ∷ arcsCheck (componentsOf l) n a ∷ []
+-- Fresh gives this answer: each of its refusals exactly in its case.
+pub record FreshRefusals (l : Language) (n : ℕ) (r : List ℕ) (answer : Told) : Type 0 where
+  -- 3: n is not 1..16
+  pub nodes : (answer ≡ told (Size 1 0)) ↔ (NodesInRange n → ⊥)
+  -- 5: the count of components is not 1..4
+  pub count : (answer ≡ told (BadCount 0 0)) ↔ (Pass (nodesCheck n ∷ []) × (CountInRange l → ⊥))
+  -- 4: component k is the first width with limit 0
+  pub limits : (k : ℕ) → (answer ≡ told (BadComponent 0 k)) ↔ (Pass (nodesCheck n ∷ countCheck l ∷ []) × FirstNot SoundLimit k (componentsOf l))
+  -- 9: R has another length
+  pub routes-length : (answer ≡ told (Length 2 0)) ↔ (Pass (nodesAndLanguage l n) × (MatrixLong n r → ⊥))
+  -- 10: law D fails over all weights, or else U
+  pub law-D : (answer ≡ told (Law 1 0)) ↔ (Pass (freshSizes l n r) × (LawD (componentsOf l) → ⊥))
+  pub law-U : (answer ≡ told (Law 2 0)) ↔ (Pass (freshSizes l n r) × LawD (componentsOf l) × (LawU (componentsOf l) → ⊥))
 
 -- ---- 11
 

@@ -17,7 +17,8 @@ use Rattle.weights.specs.declared.Language.{Language}
 use Rattle.weights.specs.declared.Places.{Places}
 use Rattle.weights.specs.Sizes.{places, arcSum, matrixSum}
 use Rattle.weights.specs.Weights.{Weight, Valid, Sound, language}
-use Rattle.weights.specs.Languages.{componentsOf, padded, placesOf, same}
+use Rattle.weights.specs.Languages.{componentsOf, padded, placesOf}
+use Rattle.weights.specs.Values.{same}
 use Rattle.weights.proofs.Padding.{padWeight}
 use Rattle.weights.proofs.Checking.{few}
 use Rattle.matrices.specs.Buffers.{matrixIn}

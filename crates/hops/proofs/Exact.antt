@@ -1,4 +1,5 @@
--- The call's answer exactly in its case: a refusal where a check gives it and all before it pass, a hop where it is the next hop.
+-- The call's answer exactly in its case: a refusal where a check gives it and all before it pass, each in words, and a hop where it
+-- is the next hop.
 use Prim.Native.Nat.{ℕ}
 use mathlib.Core.Path.{_≡_, refl, ap, _∙_}
 use mathlib.Core.List.{List, [], _∷_}
@@ -6,6 +7,7 @@ use mathlib.Core.Logic.{_↔_}
 use mathlib.Core.Option.{Option, some}
 use native.Mathlib.Omega.{arith}
 use Rattle.refusals.specs.declared.Refusal.{Refusal}
+use Rattle.refusals.specs.declared.Refusal.the-variants.{NoSuch}
 use Rattle.refusals.specs.declared.Check.{Check}
 use Rattle.refusals.specs.declared.Check.the-variants.{Passed, Refused}
 use Rattle.refusals.specs.Told.{told}
@@ -16,8 +18,11 @@ use Rattle.weights.specs.Languages.{componentsOf}
 use Rattle.routes.specs.Checks.{nodeCheck}
 use Rattle.routes.specs.Calls.{matrixOf, matricesChecks}
 use Rattle.refusals.proofs.Exactly.{told-check}
+use Rattle.routes.proofs.OneTeller.{Teller, given-where}
+use Rattle.routes.proofs.Cases.{then, node-case, nodeTeller, matricesTellers, matrices-refusals}
 use Rattle.hops.specs.NextHop.{hopOf, NextHop}
 use Rattle.hops.specs.Calls.{hopCheck, hopRowBy, hopRow}
+use Rattle.hops.specs.Exact.{HopRefusals}
 use Rattle.hops.proofs.Rule.{hop-exactly}
 
 module _ (l : Language) (n : ℕ) (a r : List ℕ) (i j : ℕ) where
@@ -37,6 +42,17 @@ module _ (l : Language) (n : ℕ) (a r : List ℕ) (i j : ℕ) where
       same : (c : Check) (o : Option ℕ) → hopRowBy c o .told ≡ told x → checkTold c ≡ told x
       same Passed o e = e
       same (Refused s) o e = e
+
+  abbrev rest : List Teller
+  rest = nodeTeller 0 n i ∷ nodeTeller 1 n j ∷ []
+
+  -- each refusal exactly in its case
+  pub hop-refusals : HopRefusals l n a r i j (hopRow l n a r i j .told)
+  hop-refusals = record {
+    matrices = matrices-refusals l n a r rest (refl, refl, λ k. refl, refl, refl, refl, refl, λ place. refl, λ place. refl) (hopRow l n a r i j .told) (λ x f. hop-refuses x);
+    no-i = then (hop-refuses (NoSuch 0 0)) (given-where 9 (matricesTellers l n a r rest) (NoSuch 0 0) refl (λ p. node-case 0 n i));
+    no-j = then (hop-refuses (NoSuch 0 1)) (given-where 10 (matricesTellers l n a r rest) (NoSuch 0 1) refl (λ p. node-case 1 n j));
+  }
 
   -- it gives node k exactly when its checks pass and k is the next hop
   pub hop-given : (k : ℕ) → (hopRow l n a r i j .node ≡ some k) ↔ ((hopCheck l n a r i j ≡ Passed) × NextHop (componentsOf l) n (matrixOf l n a) (matrixOf l n r) i j k)

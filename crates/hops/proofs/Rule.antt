@@ -11,11 +11,11 @@ use lib.Dec.{eqb, ltb}
 use borrow.Author.Tests.{eq-eqb, ne-eqb, eqb-true, ltb-true, ltb-false}
 use Rattle.weights.specs.declared.Component.{Component}
 use Rattle.weights.specs.Weights.{none, join}
-use Rattle.weights.specs.Languages.{same}
+use Rattle.weights.specs.Values.{same}
 use Rattle.weights.proofs.Compared.{same-exactly}
 use Rattle.weights.proofs.Ordering.{clash}
 use Rattle.matrices.specs.Steps.{Matrix}
-use Rattle.hops.specs.NextHop.{isHop, lowestFrom, hopOf, Gives, NextHop}
+use Rattle.hops.specs.NextHop.{isHop, lowestFrom, hopOf, ArcGivesWeight, NextHop}
 
 -- ---- the lowest number that passes a test
 
@@ -68,7 +68,7 @@ module _ (cs : List Component) (n : ℕ) (A R : Matrix) (i j : ℕ) where
       go true p q = clash false q refl
       go false p q = (λ z. clash true refl (sym (eq-eqb k i z) ∙ p), same-exactly (join cs (A i k) (R k j)) (R i j) .0 q)
 
-  is-test : (k : ℕ) → Gives cs n A R i j k → isHop cs A R i j k ≡ true
+  is-test : (k : ℕ) → ArcGivesWeight cs n A R i j k → isHop cs A R i j k ≡ true
   is-test k g = rw (ne-eqb k i (g .other)) (same-exactly (join cs (A i k) (R k j)) (R i j) .1 (g .gives))
 
   -- i = j, or R(i,j) is no route
@@ -122,15 +122,15 @@ module _ (cs : List Component) (n : ℕ) (A R : Matrix) (i j : ℕ) where
   hop-exactly k = (found k, back k)
 
   -- None where i = j, where R(i,j) is no route, or where no such k exists.
-  pub no-hop-exactly : (hopOf cs n A R i j ≡ nothing) ↔ ((i ≡ j) ⊎ (R i j ≡ none) ⊎ ((k : ℕ) → Gives cs n A R i j k → ⊥))
+  pub no-hop-exactly : (hopOf cs n A R i j ≡ nothing) ↔ ((i ≡ j) ⊎ (R i j ≡ none) ⊎ ((k : ℕ) → ArcGivesWeight cs n A R i j k → ⊥))
   no-hop-exactly = (λ e. there (eqb i j) (same (R i j) none) refl refl e, here)
     where
-      there : (a b : Bool) → eqb i j ≡ a → same (R i j) none ≡ b → cond (a || b) nothing (lowestFrom (isHop cs A R i j) 0 n) ≡ nothing → (i ≡ j) ⊎ (R i j ≡ none) ⊎ ((k : ℕ) → Gives cs n A R i j k → ⊥)
+      there : (a b : Bool) → eqb i j ≡ a → same (R i j) none ≡ b → cond (a || b) nothing (lowestFrom (isHop cs A R i j) 0 n) ≡ nothing → (i ≡ j) ⊎ (R i j ≡ none) ⊎ ((k : ℕ) → ArcGivesWeight cs n A R i j k → ⊥)
       there true b p q h = inl (eqb-true i j p)
       there false true p q h = inr (inl (same-exactly (R i j) none .0 q))
       there false false p q h = inr (inr (λ k g. let l = g .below in clash (isHop cs A R i j k) (is-test k g) (nothing-is (isHop cs A R i j) 0 n h k (omega arith) (omega arith))))
 
-      here : (i ≡ j) ⊎ (R i j ≡ none) ⊎ ((k : ℕ) → Gives cs n A R i j k → ⊥) → hopOf cs n A R i j ≡ nothing
+      here : (i ≡ j) ⊎ (R i j ≡ none) ⊎ ((k : ℕ) → ArcGivesWeight cs n A R i j k → ⊥) → hopOf cs n A R i j ≡ nothing
       here d = go (hopOf cs n A R i j) refl
         where
           go : (o : Option ℕ) → hopOf cs n A R i j ≡ o → o ≡ nothing

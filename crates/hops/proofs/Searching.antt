@@ -12,7 +12,7 @@ use borrow.Author.Tests.{eq-eqb, ne-eqb}
 use Rattle.weights.specs.declared.Component.{Component}
 use Rattle.weights.specs.Sizes.{weightWords}
 use Rattle.weights.specs.Weights.{Weight, none, route, join}
-use Rattle.weights.specs.Languages.{same}
+use Rattle.weights.specs.Values.{same}
 use Rattle.matrices.specs.Buffers.{entryPlace, Square}
 use Rattle.matrices.specs.Steps.{Matrix}
 use Rattle.matrices.proofs.Blocks.{place-room, square-small}

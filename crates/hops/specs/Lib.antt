@@ -1,2 +1,3 @@
 pub mod NextHop
 pub mod Calls
+pub mod Exact

@@ -1,5 +1,5 @@
 -- The next hop's rule (01, "Forwarding and the next hop"): "the lowest k other than i whose arc gives the route its weight".
--- To be believed: `Gives` and `NextHop`. That `hopOf`, which the contracts cite, gives exactly that node is `hop-exactly` (proofs/Rule).
+-- To be believed: `ArcGivesWeight` and `NextHop`. That `hopOf`, which the contracts cite, gives exactly that node is `hop-exactly` (proofs/Rule).
 use Prim.Native.Nat.{ℕ, zero, suc, _<_}
 use mathlib.Core.Path.{_≡_}
 use mathlib.Core.Bool.{Bool, cond, not, _&&_, _||_}
@@ -8,13 +8,13 @@ use mathlib.Core.Option.{Option, some, none as nothing}
 use lib.Dec.{eqb}
 use Rattle.weights.specs.declared.Component.{Component}
 use Rattle.weights.specs.Weights.{none, join}
-use Rattle.weights.specs.Languages.{same}
+use Rattle.weights.specs.Values.{same}
 use Rattle.matrices.specs.Steps.{Matrix}
 use Rattle.hops.specs.declared.Found.{Found}
 use Rattle.hops.specs.declared.Found.the-variants.{At, Nothing}
 
 -- k is other than i, and its arc gives the route its weight: A(i,k) joined R(k,j) equals R(i,j)
-pub record Gives (cs : List Component) (n : ℕ) (A R : Matrix) (i j k : ℕ) : Type 0 where
+pub record ArcGivesWeight (cs : List Component) (n : ℕ) (A R : Matrix) (i j k : ℕ) : Type 0 where
   pub below : k < n
   pub other : k ≡ i → ⊥
   pub gives : join cs (A i k) (R k j) ≡ R i j
@@ -23,8 +23,8 @@ pub record Gives (cs : List Component) (n : ℕ) (A R : Matrix) (i j k : ℕ) : 
 pub record NextHop (cs : List Component) (n : ℕ) (A R : Matrix) (i j k : ℕ) : Type 0 where
   pub apart : i ≡ j → ⊥
   pub route : R i j ≡ none → ⊥
-  pub hop : Gives cs n A R i j k
-  pub lowest : (m : ℕ) → m < k → Gives cs n A R i j m → ⊥
+  pub hop : ArcGivesWeight cs n A R i j k
+  pub lowest : (m : ℕ) → m < k → ArcGivesWeight cs n A R i j m → ⊥
 
 -- ---- the same, computed
 

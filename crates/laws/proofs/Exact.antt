@@ -1,21 +1,18 @@
 -- Demand 2 of the law report: a law is reported held exactly when it holds for all weights of the language; a broken one comes with
 -- weights that break it; each refusal is given exactly in its case; two answers that meet the contract are equal.
-use Prim.Native.Nat.{ℕ, zero, suc, _≤_, _<_}
-use mathlib.Core.Path.{_≡_, refl, sym, ap, subst, _∙_}
-use mathlib.Core.Bool.{Bool, true, false, cond}
+use Prim.Native.Nat.{ℕ, _≤_}
+use mathlib.Core.Path.{_≡_, refl, sym, ap, _∙_}
+use mathlib.Core.Bool.{Bool, true, false}
 use mathlib.Core.List.{List, [], _∷_}
-use mathlib.Core.Logic.{_⊎_, inl, inr, _↔_}
-use native.Mathlib.Omega.{arith}
+use mathlib.Core.Logic.{_↔_}
 use Rattle.refusals.specs.declared.Refusal.{Refusal}
-use Rattle.refusals.specs.declared.Told.{Told}
 use Rattle.refusals.specs.Told.{told, done}
 use Rattle.refusals.specs.declared.Check.{Check}
 use Rattle.refusals.specs.declared.Check.the-variants.{Passed, Refused}
 use Rattle.refusals.proofs.OneToOne.{told-one, told-not-done}
-use Rattle.refusals.specs.Checks.{Gives, firstOf}
-use Rattle.refusals.proofs.First.{first-exactly, first-passes, pass-first, passed-not}
+use Rattle.refusals.specs.Checks.{Gives}
+use Rattle.refusals.proofs.First.{first-exactly}
 use Rattle.weights.specs.declared.Language.{Language}
-use Rattle.weights.specs.declared.Component.{Component}
 use Rattle.weights.specs.Sizes.{places}
 use Rattle.weights.specs.Weights.{Sound, route, unit, unitValues}
 use Rattle.weights.specs.Laws.{LawD, LawU, LawC, testD, testU, testC, sD, xD, yD, xU, sC, BreaksD, BreaksU, BreaksC}
@@ -26,7 +23,8 @@ use Rattle.laws.specs.declared.Words.{Words}
 use Rattle.laws.specs.declared.Law.{Law}
 use Rattle.laws.specs.declared.LawAnswer.{LawAnswer}
 use Rattle.laws.specs.declared.LawAnswer.the-variants.{Laws, Refused as NoLaws}
-use Rattle.laws.specs.Report.{LawRow, Report, valueWords, noWords, lawRow, lawsOf, reportOf, report, wordsOf, lawOf, answerRow}
+use Rattle.laws.specs.Verdicts.{Shown, LawsHold}
+use Rattle.laws.specs.Report.{LawRow, Report, lawRow, lawsOf, reportOf, report, fourWords, lawOf, answerRow}
 
 -- ---- the verdicts, of a language that passes its checks
 
@@ -45,13 +43,6 @@ module _ (l : Language) (e : languageCheck l ≡ Passed) where
 
   pub C-reported : (report l .lawC .held ≡ true) ↔ LawC (componentsOf l)
   C-reported = same-test (ap (λ (r : Report). r .lawC .held) told-laws) (C-exact (componentsOf l) (check-sound l e))
-
-  -- a law reported broken: the words are those of weights that break it
-  pub record Shown (row : LawRow) (s x y : List ℕ) (Breaks : Type 0) : Type 0 where
-    pub s-words : row .s ≡ valueWords s
-    pub x-words : row .x ≡ valueWords x
-    pub y-words : row .y ≡ valueWords y
-    pub breaks : Breaks
 
   shown : (row : LawRow) (t : Bool) (s x y : List ℕ) (B : Type 0) → row ≡ lawRow t s x y → t ≡ false → B → Shown row s x y B
   shown row t s x y B r q b = record {
@@ -86,12 +77,7 @@ laws-exactly l = (λ e. sound-count l (passes (languageCheck l) refl e), λ h. a
     passes Passed p e = p
     passes (Refused r) p e = absurd (told-not-done r e)
 
--- what an answer with the laws says of the language
-pub record LawsHold (cs : List Component) (d u c : Law) : Type 0 where
-  pub holds-D : (d .held ≡ true) ↔ LawD cs
-  pub holds-U : (u .held ≡ true) ↔ LawU cs
-  pub holds-C : (c .held ≡ true) ↔ LawC cs
-
+-- an answer with the laws says which hold
 pub answer-laws : (l : Language) (d u c : Law) → answerRow (Laws d u c) ≡ report l → LawsHold (componentsOf l) d u c
 answer-laws l d u c e =
     let p : languageCheck l ≡ Passed = passed-by l (sym (ap (λ (r : Report). r .told) e)) in
@@ -116,7 +102,7 @@ refused-exactly l r = (λ e. first-exactly (countCheck l ∷ limitCheck l ∷ []
 
 -- ---- two answers with one row are equal
 
-pub words-one : (v w : Words) → wordsOf v ≡ wordsOf w → v ≡ w
+pub words-one : (v w : Words) → fourWords v ≡ fourWords w → v ≡ w
 words-one v w e = λ i. record { first = a i; second = b i; third = c i; fourth = d i }
   where
     a : v .first ≡ w .first

@@ -1,11 +1,11 @@
 -- The witnesses and tests as the code finds them by flags are those of the laws.
 use Prim.Native.Nat.{ℕ}
-use mathlib.Core.Path.{_≡_, refl, sym, ap, ap₂, _∙_}
+use mathlib.Core.Path.{_≡_, refl, ap, ap₂, _∙_}
 use mathlib.Core.Bool.{Bool, true, false, not, cond, _&&_, _||_}
 use mathlib.Core.List.{List, [], _∷_, map}
 use Rattle.weights.specs.declared.Component.{Component}
 use Rattle.weights.specs.Weights.{unitValue, unitValues}
-use Rattle.weights.specs.Laws.{lossy, isGain, nonTrivial, someNonTrivial, lossyBefore, testD, testU, testC, worst, worseOfTwo, betterOfTwo, atFirst, sD, xD, yD, xU, sC}
+use Rattle.weights.specs.Laws.{lossy, isGain, nonTrivial, someNonTrivial, lossyBefore, testD, testU, testC, worst, worseOfTwo, betterOfTwo, atFirst, sD, xD, yD}
 use Rattle.laws.specs.Flags.{someFlag, overAt, beforeFlag, afterFlag}
 
 abbrev breakFlags : List Component → List Bool

@@ -1,8 +1,8 @@
 -- From the laws of the places to the report of the language.
 use Prim.Native.Nat.{ℕ, _≤_}
 use mathlib.Core.Path.{_≡_, refl, sym, ap, subst, _∙_}
-use mathlib.Core.Bool.{Bool, true, false, not, cond}
-use mathlib.Core.List.{List, [], _∷_, map}
+use mathlib.Core.Bool.{Bool, true, false, not}
+use mathlib.Core.List.{List, [], map}
 use lib.ListN.{length}
 use Rattle.refusals.specs.declared.Refusal.{Refusal}
 use Rattle.refusals.specs.declared.Check.{Check}
@@ -19,26 +19,25 @@ use Rattle.weights.proofs.Padding.{filled-twice, unit-pad, testD-pad, testU-pad
 use Rattle.weights.proofs.Checking.{few}
 use Rattle.laws.specs.declared.Words.{Words}
 use Rattle.laws.specs.declared.Law.{Law}
-use Rattle.laws.specs.declared.LawAnswer.{LawAnswer}
 use Rattle.laws.specs.declared.LawAnswer.the-variants.{Laws, Refused as NoLaws}
-use Rattle.laws.specs.Report.{LawRow, Report, valueWords, noWords, lawRow, lawsOf, reportOf, report, wordsOf, lawOf, answerRow}
+use Rattle.laws.specs.Report.{valueWords, noWords, lawRow, lawsOf, reportOf, report, fourWords, lawOf, answerRow}
 use Rattle.laws.specs.Flags.{someFlag, overAt, beforeFlag, afterFlag}
 use Rattle.laws.proofs.Overlays.{first-over, sD-over, xD-over, yD-over, testD-any, testU-any, testC-any}
 
 -- ---- one law of the code, from what its parts ensure
 
 -- four words are filled up already
-whole : (w : Words) {xs : List ℕ} → wordsOf w ≡ xs → wordsOf w ≡ valueWords xs
+whole : (w : Words) {xs : List ℕ} → fourWords w ≡ xs → fourWords w ≡ valueWords xs
 whole w e = ap valueWords e
 
 broken : (r : Law) {t b : Bool} (s x y : List ℕ) → t ≡ not b → b ≡ true → r .held ≡ false
-    → wordsOf (r .s) ≡ valueWords s → wordsOf (r .x) ≡ valueWords x → wordsOf (r .y) ≡ valueWords y → lawOf r ≡ lawRow t s x y
+    → fourWords (r .s) ≡ valueWords s → fourWords (r .x) ≡ valueWords x → fourWords (r .y) ≡ valueWords y → lawOf r ≡ lawRow t s x y
 broken r {t} {b} s x y e f h p q k =
     let g : t ≡ false = e ∙ ap not f in
     rw g (λ i. record { held = h i; s = p i; x = q i; y = k i })
 
 held-words : (r : Law) {t b : Bool} (s x y : List ℕ) → t ≡ not b → b ≡ false → r .held ≡ true
-    → wordsOf (r .s) ≡ noWords → wordsOf (r .x) ≡ noWords → wordsOf (r .y) ≡ noWords → lawOf r ≡ lawRow t s x y
+    → fourWords (r .s) ≡ noWords → fourWords (r .x) ≡ noWords → fourWords (r .y) ≡ noWords → lawOf r ≡ lawRow t s x y
 held-words r {t} {b} s x y e f h p q k =
     let g : t ≡ true = e ∙ ap not f in
     rw g (λ i. record { held = h i; s = p i; x = q i; y = k i })
@@ -48,21 +47,21 @@ module _ (cs : List Component) {l f b : List Bool} {t : Bool} (el : l ≡ map lo
   pub test-d : testD cs ≡ not t
   test-d = rw (et, eb, el, ef) (sym (testD-any cs))
 
-  pub broken-d : (r : Law) {g : List Bool} {u v w k : List ℕ} → t ≡ true → g ≡ afterFlag b f → u ≡ unitValues cs → v ≡ map worst cs → wordsOf (r .s) ≡ overAt b v u
-      → w ≡ map worseOfTwo cs → wordsOf (r .x) ≡ overAt g w u → k ≡ map betterOfTwo cs → wordsOf (r .y) ≡ overAt g k (wordsOf (r .s)) → r .held ≡ false
+  pub broken-d : (r : Law) {g : List Bool} {u v w k : List ℕ} → t ≡ true → g ≡ afterFlag b f → u ≡ unitValues cs → v ≡ map worst cs → fourWords (r .s) ≡ overAt b v u
+      → w ≡ map worseOfTwo cs → fourWords (r .x) ≡ overAt g w u → k ≡ map betterOfTwo cs → fourWords (r .y) ≡ overAt g k (fourWords (r .s)) → r .held ≡ false
       → lawOf r ≡ lawRow (testD cs) (sD cs) (xD cs) (yD cs)
   broken-d r on eg eu ev es ew ex ek ey h = broken r (sD cs) (xD cs) (yD cs) test-d on h (whole (r .s) s-is) (whole (r .x) x-is) (whole (r .y) y-is)
     where
-      s-is : wordsOf (r .s) ≡ sD cs
+      s-is : fourWords (r .s) ≡ sD cs
       s-is = es ∙ rw (eb, el, ef, ev, eu) (sD-over cs)
 
-      x-is : wordsOf (r .x) ≡ xD cs
+      x-is : fourWords (r .x) ≡ xD cs
       x-is = ex ∙ rw (eg, eb, el, ef, ew, eu) (xD-over cs)
 
-      y-is : wordsOf (r .y) ≡ yD cs
+      y-is : fourWords (r .y) ≡ yD cs
       y-is = ey ∙ rw (s-is, eg, eb, el, ef, ek) (yD-over cs)
 
-  pub held-d : (r : Law) → t ≡ false → wordsOf (r .s) ≡ noWords → wordsOf (r .x) ≡ noWords → wordsOf (r .y) ≡ noWords → r .held ≡ true
+  pub held-d : (r : Law) → t ≡ false → fourWords (r .s) ≡ noWords → fourWords (r .x) ≡ noWords → fourWords (r .y) ≡ noWords → r .held ≡ true
       → lawOf r ≡ lawRow (testD cs) (sD cs) (xD cs) (yD cs)
   held-d r off es ex ey h = held-words r (sD cs) (xD cs) (yD cs) test-d off h es ex ey
 
@@ -71,14 +70,14 @@ module _ (cs : List Component) {g : List Bool} {t : Bool} (eg : g ≡ map isGain
   pub test-u : testU cs ≡ not t
   test-u = rw (et, eg) (sym (testU-any cs))
 
-  pub broken-u : (r : Law) {u v : List ℕ} → t ≡ true → wordsOf (r .s) ≡ noWords → u ≡ unitValues cs → v ≡ map (λ c. 1) cs → wordsOf (r .x) ≡ overAt g v u → wordsOf (r .y) ≡ noWords → r .held ≡ false
+  pub broken-u : (r : Law) {u v : List ℕ} → t ≡ true → fourWords (r .s) ≡ noWords → u ≡ unitValues cs → v ≡ map (λ c. 1) cs → fourWords (r .x) ≡ overAt g v u → fourWords (r .y) ≡ noWords → r .held ≡ false
       → lawOf r ≡ lawRow (testU cs) [] (xU cs) []
   broken-u r on es eu ev ex ey h = broken r [] (xU cs) [] test-u on h es (whole (r .x) x-is) ey
     where
-      x-is : wordsOf (r .x) ≡ xU cs
+      x-is : fourWords (r .x) ≡ xU cs
       x-is = ex ∙ rw (eg, ev, eu) (first-over isGain (λ c. 1) cs)
 
-  pub held-u : (r : Law) → t ≡ false → wordsOf (r .s) ≡ noWords → wordsOf (r .x) ≡ noWords → wordsOf (r .y) ≡ noWords → r .held ≡ true
+  pub held-u : (r : Law) → t ≡ false → fourWords (r .s) ≡ noWords → fourWords (r .x) ≡ noWords → fourWords (r .y) ≡ noWords → r .held ≡ true
       → lawOf r ≡ lawRow (testU cs) [] (xU cs) []
   held-u r off es ex ey h = held-words r [] (xU cs) [] test-u off h es ex ey
 
@@ -87,14 +86,14 @@ module _ (cs : List Component) {l : List Bool} {t : Bool} (el : l ≡ map lossy 
   pub test-c : testC cs ≡ not t
   test-c = rw (et, el) (sym (testC-any cs))
 
-  pub broken-c : (r : Law) {v : List ℕ} → t ≡ true → wordsOf (r .x) ≡ unitValues cs → v ≡ map worst cs → wordsOf (r .s) ≡ overAt l v (wordsOf (r .x)) → wordsOf (r .y) ≡ wordsOf (r .s) → r .held ≡ false
+  pub broken-c : (r : Law) {v : List ℕ} → t ≡ true → fourWords (r .x) ≡ unitValues cs → v ≡ map worst cs → fourWords (r .s) ≡ overAt l v (fourWords (r .x)) → fourWords (r .y) ≡ fourWords (r .s) → r .held ≡ false
       → lawOf r ≡ lawRow (testC cs) (sC cs) (unitValues cs) (sC cs)
   broken-c r on ex ev es ey h = broken r (sC cs) (unitValues cs) (sC cs) test-c on h (whole (r .s) s-is) (whole (r .x) ex) (whole (r .y) (ey ∙ s-is))
     where
-      s-is : wordsOf (r .s) ≡ sC cs
+      s-is : fourWords (r .s) ≡ sC cs
       s-is = es ∙ rw (el, ev, ex) (first-over lossy worst cs)
 
-  pub held-c : (r : Law) → t ≡ false → wordsOf (r .s) ≡ noWords → wordsOf (r .x) ≡ noWords → wordsOf (r .y) ≡ noWords → r .held ≡ true
+  pub held-c : (r : Law) → t ≡ false → fourWords (r .s) ≡ noWords → fourWords (r .x) ≡ noWords → fourWords (r .y) ≡ noWords → r .held ≡ true
       → lawOf r ≡ lawRow (testC cs) (sC cs) (unitValues cs) (sC cs)
   held-c r off es ex ey h = held-words r (sC cs) (unitValues cs) (sC cs) test-c off h es ex ey
 

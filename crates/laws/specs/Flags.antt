@@ -1,10 +1,11 @@
 -- How the code finds a witness: a flag for each place, and words laid over others at the first flag.
 -- They join the code to the report; what has to be believed is the report.
 use Prim.Native.Nat.{ℕ}
-use mathlib.Core.Bool.{Bool, true, false, cond, _&&_, _||_}
+use mathlib.Core.Bool.{Bool, false, cond, _&&_, _||_}
 use mathlib.Core.List.{List, [], _∷_}
 use Rattle.laws.specs.declared.Flags.{Flags}
 
+-- the four flags as a list
 abbrev pub flagsOf : Flags → List Bool
 flagsOf f = f .first ∷ f .second ∷ f .third ∷ f .fourth ∷ []
 

@@ -74,11 +74,13 @@ report l = reportOf (languageCheck l) (componentsOf l)
 
 -- ---- what the code's answer says
 
-abbrev pub wordsOf : Words → List ℕ
-wordsOf w = w .first ∷ w .second ∷ w .third ∷ w .fourth ∷ []
+-- the four words as a list
+abbrev pub fourWords : Words → List ℕ
+fourWords w = w .first ∷ w .second ∷ w .third ∷ w .fourth ∷ []
 
+-- the row of a law in the code's answer
 abbrev pub lawOf : Law → LawRow
-lawOf w = record { held = w .held; s = wordsOf (w .s); x = wordsOf (w .x); y = wordsOf (w .y) }
+lawOf w = record { held = w .held; s = fourWords (w .s); x = fourWords (w .x); y = fourWords (w .y) }
 
 -- the whole row of an answer
 abbrev pub answerRow : LawAnswer → Report

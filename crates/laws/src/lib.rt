@@ -5,12 +5,12 @@ use weights::Component;
 use weights::Language;
 use weights::Places;
 ghost use mathlib.Core.Path.{_≡_};
-ghost use mathlib.Core.Bool.{not, _&&_, _||_};
-ghost use mathlib.Core.List.{_∷_, [], map};
+ghost use mathlib.Core.Bool.{_&&_, _||_};
+ghost use mathlib.Core.List.{[], map};
 ghost use Rattle.weights.specs.Weights.{unitValue, unitValues};
 ghost use Rattle.weights.specs.Laws.{nonTrivial, lossy, isGain, worst, worseOfTwo, betterOfTwo, testD, testU, testC, sD, xD, yD, xU, sC};
 ghost use Rattle.weights.specs.Languages.{placesOf};
-ghost use Rattle.laws.specs.Report.{wordsOf, lawOf, lawRow, noWords, report, answerRow};
+ghost use Rattle.laws.specs.Report.{fourWords, lawOf, lawRow, noWords, report, answerRow};
 ghost use Rattle.laws.specs.Flags.{flagsOf, someFlag, overAt, beforeFlag, afterFlag};
 
 // A flag for each place.
@@ -182,7 +182,7 @@ fn gain_flags(p: Places) -> Flags
 
 // The unit of each place.
 pub fn units(p: Places) -> Words
-    ensures { λ r. ⌜ wordsOf r ≡ unitValues (placesOf p) ⌝ }
+    ensures { λ r. ⌜ fourWords r ≡ unitValues (placesOf p) ⌝ }
 {
     let one = p.first;
     let two = p.second;
@@ -201,7 +201,7 @@ pub fn units(p: Places) -> Words
 }
 
 fn worst_words(p: Places) -> Words
-    ensures { λ r. ⌜ wordsOf r ≡ map worst (placesOf p) ⌝ }
+    ensures { λ r. ⌜ fourWords r ≡ map worst (placesOf p) ⌝ }
 {
     let one = p.first;
     let two = p.second;
@@ -220,7 +220,7 @@ fn worst_words(p: Places) -> Words
 }
 
 fn worse_words(p: Places) -> Words
-    ensures { λ r. ⌜ wordsOf r ≡ map worseOfTwo (placesOf p) ⌝ }
+    ensures { λ r. ⌜ fourWords r ≡ map worseOfTwo (placesOf p) ⌝ }
 {
     let one = p.first;
     let two = p.second;
@@ -239,7 +239,7 @@ fn worse_words(p: Places) -> Words
 }
 
 fn better_words(p: Places) -> Words
-    ensures { λ r. ⌜ wordsOf r ≡ map betterOfTwo (placesOf p) ⌝ }
+    ensures { λ r. ⌜ fourWords r ≡ map betterOfTwo (placesOf p) ⌝ }
 {
     let one = p.first;
     let two = p.second;
@@ -258,7 +258,7 @@ fn better_words(p: Places) -> Words
 }
 
 fn zeros() -> Words
-    ensures { λ r. ⌜ wordsOf r ≡ noWords ⌝ }
+    ensures { λ r. ⌜ fourWords r ≡ noWords ⌝ }
 {
     Words {
         first: 0,
@@ -345,7 +345,7 @@ fn after_flag(b: Flags, f: Flags) -> Flags
 
 // u, but v at the first flag.
 fn over_at(f: Flags, v: Words, u: Words) -> Words
-    ensures { λ r. ⌜ wordsOf r ≡ overAt (flagsOf f) (wordsOf v) (wordsOf u) ⌝ }
+    ensures { λ r. ⌜ fourWords r ≡ overAt (flagsOf f) (fourWords v) (fourWords u) ⌝ }
 {
     if f.first {
         return Words {

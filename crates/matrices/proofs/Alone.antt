@@ -9,7 +9,8 @@ use Rattle.weights.specs.declared.Places.{Places}
 use Rattle.weights.specs.declared.Weight as declared
 use Rattle.weights.specs.declared.Weight.the-variants.{Route}
 use Rattle.weights.specs.Weights.{Weight, none, route, Valid, ValidValue, join, joinValue}
-use Rattle.weights.specs.Languages.{placesOf, weightOf}
+use Rattle.weights.specs.Languages.{placesOf}
+use Rattle.weights.specs.Values.{weightOf}
 use Rattle.weights.proofs.Ordering.{join-valid1}
 use Rattle.matrices.specs.Parts.{FirstAlone, Single, firstOnly}
 

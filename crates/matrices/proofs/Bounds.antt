@@ -17,7 +17,8 @@ use Rattle.weights.specs.declared.Component.the-variants.{Dist, Width, Class, G
 use Rattle.weights.specs.declared.Places.{Places}
 use Rattle.weights.specs.Sizes.{places, weightWords, ones, arcSum, matrixSum}
 use Rattle.weights.specs.Weights.{Weight, none, route, Sound, Valid, ValidValue, ValidValues, join, joinValues, joinValue, better, betterOf, unit, unitValues, unitValue, language}
-use Rattle.weights.specs.Languages.{placesOf, AtMost, AllAtMost, SmallLimit, SmallLimits}
+use Rattle.weights.specs.Languages.{placesOf, SmallLimit, SmallLimits}
+use Rattle.weights.specs.Values.{AtMost, AllAtMost}
 use Rattle.weights.specs.Words.{words, allAre, inRange, fits, good, malformed, reading, decoded}
 use Rattle.weights.proofs.Ordering.{join-valid, unit-valid}
 use Rattle.matrices.specs.Buffers.{wordsAt, entryPlace, cell, matrixIn, Formed}

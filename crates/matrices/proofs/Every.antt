@@ -55,10 +55,6 @@ unfolding every
 every-all t zero h = refl
 every-all t (suc n) h = rw (every-all t n (λ j l. h j (omega arith)), h n (omega arith))
 
--- all n tests hold
-pub every-exactly : (t : ℕ → Bool) (n : ℕ) → (every n t ≡ true) ↔ ((j : ℕ) → j < n → t j ≡ true)
-every-exactly t n = (every-at t n, every-all t n)
-
 -- R satisfies the routing equation
 pub solves-exactly : (cs : List Component) (n : ℕ) (A R : Matrix) → (solves cs n A R ≡ true) ↔ Solves (language cs) n A R
 solves-exactly cs n A R = (

@@ -67,9 +67,6 @@ module _ (p : Places) (n : ℕ) (few : n ≤ 16) (sound : Sound (placesOf p)) (l
   pub fresh-formed : Formed matrixSum (placesOf p) n (matrixWords n (fresh (language (placesOf p))))
   fresh-formed = stands-formed p n (fresh (language (placesOf p))) few (λ i j _ _. fresh-stands i j)
 
-  pub fresh-entries : (i j : ℕ) → i < n → j < n → matrixIn places n (matrixWords n (fresh (language (placesOf p)))) i j ≡ fresh (language (placesOf p)) i j
-  fresh-entries = stands-entries p n (fresh (language (placesOf p))) (λ i j _ _. fresh-stands i j)
-
 -- ---- the steps
 
 module _ (p : Places) (n : ℕ) (a r : List ℕ) (g : Given (placesOf p) n a r) where

@@ -1,6 +1,6 @@
 -- Refusal 6 on a matrix: it passes exactly where every entry is well-formed, and else it is at the first entry that is not.
 use Prim.Native.Nat.{ℕ, zero, suc, _+_, _*_, _-_, _/_, _%_, _≤_, _<_}
-use mathlib.Core.Path.{_≡_, refl, sym, ap, _∙_, subst}
+use mathlib.Core.Path.{_≡_, refl, sym, ap, ap₂, _∙_, subst}
 use mathlib.Core.Bool.{Bool, true, false, cond}
 use mathlib.Core.List.{List}
 use mathlib.Core.Logic.{_↔_}
@@ -9,6 +9,7 @@ use native.Mathlib.Numerals.{add-one}
 use native.Mathlib.Omega.{arith}
 use Rattle.refusals.specs.declared.Refusal.{Refusal}
 use Rattle.refusals.specs.declared.Refusal.the-variants.{Value}
+use Rattle.refusals.specs.declared.Check.{Check}
 use Rattle.refusals.specs.declared.Check.the-variants.{Passed, Refused}
 use Rattle.refusals.proofs.First.{passed-not}
 use Rattle.weights.specs.declared.Component.{Component}
@@ -127,6 +128,13 @@ module _ (test : ℕ → Bool) (size which : ℕ) where
             before = λ m l. let v : e + suc m ≡ suc e + m = omega arith in subst (λ (k : ℕ). test (k * size) ≡ true) v (b (suc m) (omega arith));
             told = q ∙ ap (λ (k : ℕ). Value which (k * size)) y;
           }))
+
+-- where two tests agree on the entries, the same one fails first
+pub first-cong : (t u : ℕ → Bool) (size which e c : ℕ) → ((m : ℕ) → m < e + c → t (m * size) ≡ u (m * size)) → firstMalformed t size which e c ≡ firstMalformed u size which e c
+unfolding firstMalformed
+first-cong t u size which e zero same = refl
+first-cong t u size which e (suc c) same =
+    ap₂ (λ (b : Bool) (k : Check). cond b k (Refused (Value which (e * size)))) (same e (omega arith)) (first-cong t u size which (suc e) c (λ m l. same m (omega arith)))
 
 -- ---- a matrix
 

@@ -16,7 +16,8 @@ use Rattle.weights.specs.declared.Component.{Component}
 use Rattle.weights.specs.declared.Places.{Places}
 use Rattle.weights.specs.Sizes.{places, weightWords, arcSum, matrixSum, tableSum}
 use Rattle.weights.specs.Weights.{Weight, none, route, join, betterOf, language}
-use Rattle.weights.specs.Languages.{placesOf, same}
+use Rattle.weights.specs.Languages.{placesOf}
+use Rattle.weights.specs.Values.{same}
 use Rattle.weights.specs.Words.{decoded, words}
 use Rattle.matrices.specs.Buffers.{rowWords, matrixWords, rowIn, matrixIn, Square}
 use Rattle.matrices.specs.Steps.{Matrix, every, rowFits, stepped, rowSolves, Given}

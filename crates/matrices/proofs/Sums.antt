@@ -16,7 +16,8 @@ use Rattle.weights.specs.declared.Component.the-variants.{Dist, Width, Class, G
 use Rattle.weights.specs.declared.Places.{Places}
 use Rattle.weights.specs.Sizes.{places, arcSum, matrixSum}
 use Rattle.weights.specs.Weights.{Weight, none, route, Valid, ValidValue, ValidValues, joinValue, joinValues, join, unitValue, unitValues, language}
-use Rattle.weights.specs.Languages.{placesOf, AtMost, AllAtMost, SmallLimit, SmallLimits}
+use Rattle.weights.specs.Languages.{placesOf, SmallLimit, SmallLimits}
+use Rattle.weights.specs.Values.{AtMost, AllAtMost}
 use Rattle.weights.proofs.Languages.{lawful}
 use Rattle.matrices.specs.Buffers.{matrixIn}
 use Rattle.matrices.specs.Steps.{sumFits, sumsFit, weightFits, GivenArcs, Given}

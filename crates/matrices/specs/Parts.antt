@@ -1,23 +1,17 @@
 -- What the inner functions say on the way to Buffers and Steps: one arc taken into a row.
 -- They join the code to those; nothing here has to be believed.
-use Prim.Native.Nat.{ℕ, zero, suc, _*_, _≤_, _<_}
+use Prim.Native.Nat.{ℕ}
 use mathlib.Core.Path.{_≡_}
-use mathlib.Core.Bool.{Bool, true, cond, _&&_}
+use mathlib.Core.Bool.{Bool, true, _&&_}
 use mathlib.Core.List.{List, [], _∷_}
-use lib.Dec.{leb, eqb}
-use lib.ListN.{length}
-use Rattle.algebra.specs.Algebra.{order}
-use Rattle.algebra.specs.Order.{bestOf}
-use Rattle.algebra.specs.Step.{fresh}
+use lib.Dec.{leb}
 use Rattle.weights.specs.declared.Component.{Component}
 use Rattle.weights.specs.declared.Component.the-variants.{Class}
 use Rattle.weights.specs.declared.Places.{Places}
-use Rattle.weights.specs.Sizes.{places, weightWords, arcSum, matrixSum}
-use Rattle.weights.specs.Weights.{Weight, none, route, Valid, Sound, join, betterOf, language}
-use Rattle.weights.specs.Laws.{testD, testU}
-use Rattle.weights.specs.Languages.{SmallLimits, AtMost, same}
-use Rattle.matrices.specs.Buffers.{Formed, rowIn}
-use Rattle.matrices.specs.Steps.{Matrix}
+use Rattle.weights.specs.Sizes.{places, matrixSum}
+use Rattle.weights.specs.Weights.{Weight, none, route, join, betterOf}
+use Rattle.weights.specs.Values.{same}
+use Rattle.matrices.specs.Buffers.{rowIn}
 
 -- ---- a row
 

@@ -2,18 +2,17 @@
 -- To be believed: all but `Given`, which says what the inner functions may rely on, and `GivenArcs`, the same of the arcs alone.
 use Prim.Native.Nat.{ℕ, zero, suc}
 use mathlib.Core.Path.{_≡_}
-use mathlib.Core.Bool.{Bool, true, false, cond, _&&_}
+use mathlib.Core.Bool.{Bool, true, cond, _&&_}
 use mathlib.Core.List.{List, [], _∷_}
 use lib.Dec.{leb}
-use Rattle.algebra.specs.Algebra.{order}
-use Rattle.algebra.specs.Order.{bestOf}
-use Rattle.algebra.specs.Step.{row, fresh, through, routed, step}
+use Rattle.algebra.specs.Step.{row, routed, step}
 use Rattle.weights.specs.declared.Component.{Component}
 use Rattle.weights.specs.declared.Component.the-variants.{Dist, Width, Class, Gain}
 use Rattle.weights.specs.Sizes.{arcSum, matrixSum}
 use Rattle.weights.specs.Weights.{Weight, none, route, Sound, language}
 use Rattle.weights.specs.Laws.{testD, testU}
-use Rattle.weights.specs.Languages.{SmallLimits, same}
+use Rattle.weights.specs.Languages.{SmallLimits}
+use Rattle.weights.specs.Values.{same}
 use Rattle.matrices.specs.Buffers.{Formed}
 
 -- a matrix of weights

@@ -9,7 +9,8 @@ ghost use lib.ListN.{length, drop};
 ghost use Rattle.algebra.specs.Step.{fresh};
 ghost use Rattle.weights.specs.Sizes.{weightWords};
 ghost use Rattle.weights.specs.Weights.{unit, language};
-ghost use Rattle.weights.specs.Languages.{placesOf, weightOf};
+ghost use Rattle.weights.specs.Languages.{placesOf};
+ghost use Rattle.weights.specs.Values.{weightOf};
 ghost use Rattle.matrices.specs.Buffers.{rowWords, matrixWords, Square};
 
 fn unit_weight(p: Places) -> Weight

@@ -19,7 +19,7 @@ use Rattle.records.specs.declared.Listing.the-variants.{Arcs, Attachments}
 use Rattle.records.specs.Records.{listEnd}
 use Rattle.files.specs.declared.ReadAnswer.the-variants.{Done, Refused}
 use Rattle.files.specs.File.{fileRead}
-use Rattle.files.specs.Contents.{wide, columns, sizeOf, listedWords, tableWords, listOver}
+use Rattle.files.specs.Contents.{wide, columns, sizeOf, listedWords, listedTable, listOver}
 use Rattle.files.specs.Answers.{Row, headRow, sized, ReadSays}
 use Rattle.files.proofs.Tables.{length-grid}
 use Rattle.files.proofs.Storing.{listed-wide}
@@ -29,16 +29,16 @@ use Rattle.printing.specs.Printed.{textOf, textRead, printed}
 
 -- ---- the lists
 
-length-table : (s : List ℕ) (h : Head) (list : Listing) (first count : ℕ) → length (tableWords s h list first count) ≡ sizeOf h list
-unfolding tableWords sizeOf
+length-table : (s : List ℕ) (h : Head) (list : Listing) (first count : ℕ) → length (listedTable s h list first count) ≡ sizeOf h list
+unfolding listedTable sizeOf
 length-table s h list first count =
     length-grid (wide list) (listedWords s h list first count) (listed-wide s h list first count) (h .n) (columns h list)
 
 -- the part of a buffer that a list was written into is the list's table
 list-lent : (s : List ℕ) (h : Head) (list : Listing) (at : ℕ) (buffer : List ℕ)
-    → take (sizeOf h list) (listOver s h list at buffer) ≡ tableWords s h list (at + 2) (twoAt s at)
+    → take (sizeOf h list) (listOver s h list at buffer) ≡ listedTable s h list (at + 2) (twoAt s at)
 list-lent s h list at buffer =
-    take-at (tableWords s h list (at + 2) (twoAt s at)) (drop (sizeOf h list) buffer) (sizeOf h list) (length-table s h list (at + 2) (twoAt s at))
+    take-at (listedTable s h list (at + 2) (twoAt s at)) (drop (sizeOf h list) buffer) (sizeOf h list) (length-table s h list (at + 2) (twoAt s at))
 
 -- ---- the text
 
@@ -50,13 +50,13 @@ module _ (s a m a′ m′ : List ℕ) where
   text-done n k mode l w =
       let d = done-means s a m a′ m′ n k mode l w in
       let h = d .head in
-      let arcs : take (h .n * (h .n * weightWords)) a′ ≡ tableWords s h Arcs (d .next + 2) (twoAt s (d .next)) =
+      let arcs : take (h .n * (h .n * weightWords)) a′ ≡ listedTable s h Arcs (d .next + 2) (twoAt s (d .next)) =
       ap (take (h .n * (h .n * weightWords))) (d .arcs-are) ∙ list-lent s h Arcs (d .next) a in
       let mid : ℕ = listEnd s h Arcs (d .next) in
-      let mapping : take (h .n * (h .m * entryWords)) m′ ≡ tableWords s h Attachments (mid + 2) (twoAt s mid) =
+      let mapping : take (h .n * (h .m * entryWords)) m′ ≡ listedTable s h Attachments (mid + 2) (twoAt s mid) =
       ap (take (h .n * (h .m * entryWords))) (d .mapping-is) ∙ list-lent s h Attachments mid m in
       ap (textRead s) (d .read)
-      ∙ ap (λ (x : List ℕ). textOf (h .language) (h .n) (h .m) (h .mode) x (tableWords s h Attachments (mid + 2) (twoAt s mid))) (sym arcs)
+      ∙ ap (λ (x : List ℕ). textOf (h .language) (h .n) (h .m) (h .mode) x (listedTable s h Attachments (mid + 2) (twoAt s mid))) (sym arcs)
       ∙ ap (textOf (h .language) (h .n) (h .m) (h .mode) (take (h .n * (h .n * weightWords)) a′)) (sym mapping)
       ∙ ap (λ (x : ℕ). textOf (h .language) x (h .m) (h .mode) (take (x * (x * weightWords)) a′) (take (x * (h .m * entryWords)) m′)) (d .n-is)
       ∙ ap (λ (x : ℕ). textOf (h .language) n x (h .mode) (take (n * (n * weightWords)) a′) (take (n * (x * entryWords)) m′)) (d .m-is)

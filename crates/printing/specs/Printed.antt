@@ -19,7 +19,7 @@ use Rattle.records.specs.declared.Listing.the-variants.{Arcs, Attachments}
 use Rattle.records.specs.Records.{listEnd}
 use Rattle.fields.specs.Bytes.{twoAt}
 use Rattle.files.specs.File.{fileRead}
-use Rattle.files.specs.Contents.{tableWords}
+use Rattle.files.specs.Contents.{listedTable}
 use Rattle.texts.specs.Lines.{lawsLine, routeLines, entryLines, refusedLine}
 use Rattle.printing.specs.Work.{routesTold, routesLeft, blank, tableTold, tableLeft, blankTable}
 
@@ -59,8 +59,8 @@ abbrev pub textRead : List ℕ → HeadRead → List ℕ
 textRead s (Faulty r) = refusedLine (told r)
 textRead s (Sound next h) =
     textOf (h .language) (h .n) (h .m) (h .mode)
-    (tableWords s h Arcs (next + 2) (twoAt s next))
-    (tableWords s h Attachments (listEnd s h Arcs next + 2) (twoAt s (listEnd s h Arcs next)))
+    (listedTable s h Arcs (next + 2) (twoAt s next))
+    (listedTable s h Attachments (listEnd s h Arcs next + 2) (twoAt s (listEnd s h Arcs next)))
 
 -- The text printed of a file of at most 65,536 bytes.
 unfoldable pub printed : List ℕ → List ℕ

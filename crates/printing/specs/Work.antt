@@ -32,10 +32,12 @@ firstTold Passed t = t
 unfoldable pub routesTold : Language → ℕ → List ℕ → List ℕ → Told
 routesTold l n a r = firstTold (freshCheck l n r) (stepsRow l n a (freshLeft l n r) (sweeps n) .told)
 
+-- what r holds, by the check of the fresh call
 abbrev pub routesLeftBy : Check → Language → ℕ → List ℕ → List ℕ → List ℕ
 routesLeftBy (Refused x) l n a r = r
 routesLeftBy Passed l n a r = stepsLeft l n a (freshLeft l n r) (sweeps n)
 
+-- what r holds after both calls
 unfoldable pub routesLeft : Language → ℕ → List ℕ → List ℕ → List ℕ
 routesLeft l n a r = routesLeftBy (freshCheck l n r) l n a r
 
@@ -47,6 +49,7 @@ blank n = replicate (n * (n * weightWords)) 0
 unfoldable pub tableTold : Language → ℕ → ℕ → ℕ → List ℕ → List ℕ → List ℕ → List ℕ → Told
 tableTold l n m mode a r s f = checkTold (forwardCheck l n m mode a r s f)
 
+-- what f holds after the forwarding call
 unfoldable pub tableLeft : Language → ℕ → ℕ → ℕ → List ℕ → List ℕ → List ℕ → List ℕ → List ℕ
 tableLeft l n m mode a r s f = forwardLeft l n m mode a r s f
 

@@ -16,7 +16,7 @@ use Rattle.records.specs.declared.Listing.the-variants.{Arcs, Attachment
 use Rattle.records.specs.declared.Ends.{Ends}
 use Rattle.records.specs.declared.Ends.the-variants.{Arc, Attachment}
 use Rattle.fields.specs.Bytes.{twoAt}
-use Rattle.records.specs.Records.{endsAt, endsCheck, lengthOf, recordCheck, recordsCheck, listCheck, listEnd, bodyCheck}
+use Rattle.records.specs.Records.{endsAt, endsCheck, lengthOf, recordCheck, recordsCheck, recordListCheck, listEnd, bodyCheck}
 use Rattle.records.specs.Parts.{InRange, Listed}
 use Rattle.fields.proofs.Passing.{both-pass, unless-passes}
 
@@ -45,13 +45,13 @@ records-listed s h list (suc count) at low f (suc e) l =
     let q : at + suc e * lengthOf h list ≡ at + lengthOf h list + e * lengthOf h list = omega (arith, suc-mul e (lengthOf h list)) in
     rw q (records-listed s h list count (at + lengthOf h list) (twoAt s at + 1) (both-pass (recordCheck s h list at low) _ f .1) e (omega arith))
 
-pub list-listed : (s : List ℕ) (h : Head) (list : Listing) (at : ℕ) → listCheck s h list at ≡ Passed → Listed s h list (at + 2) (twoAt s at)
-unfolding listCheck
+pub list-listed : (s : List ℕ) (h : Head) (list : Listing) (at : ℕ) → recordListCheck s h list at ≡ Passed → Listed s h list (at + 2) (twoAt s at)
+unfolding recordListCheck
 list-listed s h list at f = records-listed s h list (twoAt s at) (at + 2) 0 (both-pass (unless (leb (at + 2) (length s)) (Bytes 0 at)) _ f .1)
 
 pub body-listed : (s : List ℕ) (h : Head) (at : ℕ) → bodyCheck s h at ≡ Passed
     → Listed s h Arcs (at + 2) (twoAt s at) × Listed s h Attachments (listEnd s h Arcs at + 2) (twoAt s (listEnd s h Arcs at))
 unfolding bodyCheck
 body-listed s h at f =
-    let g = both-pass (listCheck s h Arcs at) _ f in
-    (list-listed s h Arcs at (g .0), list-listed s h Attachments (listEnd s h Arcs at) (both-pass (listCheck s h Attachments (listEnd s h Arcs at)) _ (g .1) .0))
+    let g = both-pass (recordListCheck s h Arcs at) _ f in
+    (list-listed s h Arcs at (g .0), list-listed s h Attachments (listEnd s h Arcs at) (both-pass (recordListCheck s h Attachments (listEnd s h Arcs at)) _ (g .1) .0))

@@ -31,6 +31,7 @@ outsideLength Attachments mode = cond (ltb mode 2) 0 2
 unfoldable pub recordLength : Listing → ℕ → ℕ → ℕ
 recordLength list mode count = 2 + count * 2 + outsideLength list mode
 
+-- the bytes of a record under a head
 abbrev pub lengthOf : Head → Listing → ℕ
 lengthOf h list = recordLength list (h .mode) (h .language .count)
 
@@ -66,8 +67,8 @@ recordsCheck s h list at low (suc count) =
     orElse (recordCheck s h list at low) (recordsCheck s h list (at + lengthOf h list) (twoAt s at + 1) count)
 
 -- a count of two bytes, and as many records
-unfoldable pub listCheck : List ℕ → Head → Listing → ℕ → Check
-listCheck s h list at = orElse (unless (leb (at + 2) (length s)) (Bytes 0 at)) (recordsCheck s h list (at + 2) 0 (twoAt s at))
+unfoldable pub recordListCheck : List ℕ → Head → Listing → ℕ → Check
+recordListCheck s h list at = orElse (unless (leb (at + 2) (length s)) (Bytes 0 at)) (recordsCheck s h list (at + 2) 0 (twoAt s at))
 
 -- the offset after a list
 unfoldable pub listEnd : List ℕ → Head → Listing → ℕ → ℕ
@@ -80,5 +81,5 @@ endCheck s at = unless (leb (length s) at) (Bytes 0 at)
 -- arcs, attachments, and nothing after them
 unfoldable pub bodyCheck : List ℕ → Head → ℕ → Check
 bodyCheck s h at =
-    orElse (listCheck s h Arcs at)
-    (orElse (listCheck s h Attachments (listEnd s h Arcs at)) (endCheck s (listEnd s h Attachments (listEnd s h Arcs at))))
+    orElse (recordListCheck s h Arcs at)
+    (orElse (recordListCheck s h Attachments (listEnd s h Arcs at)) (endCheck s (listEnd s h Attachments (listEnd s h Arcs at))))

@@ -4,11 +4,11 @@ use super::Listing;
 use fields::Head;
 use fields::bytes::byte;
 use fields::bytes::two;
-use fields::header::or_else;
 use numbers::Destination;
 use numbers::Node;
 use refusals::Check;
 use refusals::Refusal;
+use refusals::checks::or_else;
 use weights::ARC_SUM;
 use weights::Component;
 use weights::Language;
@@ -53,6 +53,7 @@ pub fn ends_at(file: &[u8], list: Listing, at: u32) -> Ends
     }
 }
 
+// An end that does not exist.
 fn no_such(place: u32) -> Check
     ensures { λ r. ⌜ r ≡ Check.Refused (Refusal.NoSuch 0 place) ⌝ }
 {
@@ -86,6 +87,7 @@ fn ends_check(h: Head, at: u32, e: Ends) -> Check
     }
 }
 
+// The component at place k.
 fn component_at(l: Language, k: u32) -> Component
     ensures { λ r. ⌜ r ≡ componentAt l k ⌝ }
 {

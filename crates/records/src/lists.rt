@@ -4,13 +4,13 @@ use super::checks::record_check;
 use super::checks::record_length;
 use fields::Head;
 use fields::bytes::two;
-use fields::header::or_else;
 use refusals::Check;
 use refusals::Refusal;
+use refusals::checks::or_else;
 ghost use mathlib.Core.Path.{_≡_};
 ghost use Prim.Native.Nat.{_+_, _≤_};
 ghost use Rattle.weights.specs.Sizes.{places};
-ghost use Rattle.records.specs.Records.{recordsCheck, listCheck, listEnd, bodyCheck};
+ghost use Rattle.records.specs.Records.{recordsCheck, recordListCheck, listEnd, bodyCheck};
 
 // `count` records in a row, each after the one before it.
 fn records_check(file: &[u8], h: Head, list: Listing, first: u32, count: u32) -> Check
@@ -34,9 +34,9 @@ fn records_check(file: &[u8], h: Head, list: Listing, first: u32, count: u32) ->
 }
 
 // A list of records with its count.
-fn list_check(file: &[u8], h: Head, list: Listing, at: u32) -> Check
+fn record_list_check(file: &[u8], h: Head, list: Listing, at: u32) -> Check
     requires { ⌜ (at ≤ 800000) × (h .language .count ≤ places) ⌝ }
-    ensures { λ r. ⌜ r ≡ listCheck (now (file .entry)) h list at ⌝ }
+    ensures { λ r. ⌜ r ≡ recordListCheck (now (file .entry)) h list at ⌝ }
 {
     let first = at + 2;
     if file.len() < first as usize {
@@ -63,9 +63,9 @@ pub fn body_check(file: &[u8], h: Head, at: u32) -> Check
     requires { ⌜ (at ≤ 23) × (h .language .count ≤ places) ⌝ }
     ensures { λ r. ⌜ r ≡ bodyCheck (now (file .entry)) h at ⌝ }
 {
-    let arcs = list_check(file, h, Listing::Arcs, at);
+    let arcs = record_list_check(file, h, Listing::Arcs, at);
     let mid = list_end(file, h, Listing::Arcs, at);
-    let attachments = list_check(file, h, Listing::Attachments, mid);
+    let attachments = record_list_check(file, h, Listing::Attachments, mid);
     let end = list_end(file, h, Listing::Attachments, mid);
     if (end as usize) < file.len() {
         return or_else(

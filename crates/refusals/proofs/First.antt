@@ -1,13 +1,13 @@
 -- Exactness of refusals: the first of a list of checks gives r exactly when some check gives r and all before it pass.
 use Prim.Native.Nat.{ℕ}
 use mathlib.Core.Path.{_≡_, refl, sym}
-use mathlib.Core.Logic.{_⊎_, inl, inr, _↔_}
-use mathlib.Core.List.{List, [], _∷_, _++_}
+use mathlib.Core.Logic.{inl, inr, _↔_}
+use mathlib.Core.List.{List, [], _∷_}
 use native.Mathlib.Omega.{arith}
 use Rattle.refusals.specs.declared.Refusal.{Refusal}
 use Rattle.refusals.specs.declared.Check.{Check}
 use Rattle.refusals.specs.declared.Check.the-variants.{Passed, Refused}
-use Rattle.refusals.specs.Checks.{orElse, firstOf, Pass, Gives}
+use Rattle.refusals.specs.Checks.{firstOf, Pass, Gives}
 
 -- to pass is not to refuse
 pub passed-not : (r : Refusal) → _≡_ {A = Check} Passed (Refused r) → ⊥

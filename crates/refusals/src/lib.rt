@@ -1,4 +1,6 @@
 // 01's refusals: a case for each of its thirteen numbers, each with which and place.
+pub mod checks;
+
 ghost use mathlib.Core.Path.{_≡_};
 ghost use Rattle.refusals.specs.Told.{told};
 

@@ -1,7 +1,7 @@
 -- From what the inner functions say to the calls' own words: the answer's row and what the buffer holds.
 use Prim.Native.Nat.{ℕ, _≤_, _<_}
-use mathlib.Core.Path.{_≡_, refl, sym, ap, subst, _∙_}
-use mathlib.Core.Bool.{Bool, true, false, cond}
+use mathlib.Core.Path.{_≡_, sym, ap, _∙_}
+use mathlib.Core.Bool.{Bool, true, false}
 use mathlib.Core.List.{List, [], _∷_, map}
 use lib.ListN.{length}
 use borrow.Author.Tests.{lt-ltb, le-ltb}
@@ -9,26 +9,22 @@ use Rattle.refusals.specs.declared.Refusal.{Refusal}
 use Rattle.refusals.specs.declared.Refusal.the-variants.{Sum}
 use Rattle.refusals.specs.declared.Check.{Check}
 use Rattle.refusals.specs.declared.Check.the-variants.{Passed, Refused}
-use Rattle.refusals.specs.declared.Answer.{Answer}
 use Rattle.refusals.specs.declared.Answer.the-variants.{Done as AllDone, Refused as NotDone}
 use Rattle.refusals.specs.Checks.{firstOf, answerTold, checkTold}
 use Rattle.algebra.specs.Step.{fresh}
-use Rattle.weights.specs.declared.Component.{Component}
 use Rattle.weights.specs.declared.Language.{Language}
 use Rattle.weights.specs.declared.Places.{Places}
 use Rattle.weights.specs.Sizes.{places, arcSum, matrixSum}
-use Rattle.weights.specs.Weights.{Sound, language}
+use Rattle.weights.specs.Weights.{language}
 use Rattle.weights.specs.Languages.{componentsOf, placesOf}
-use Rattle.weights.proofs.Checking.{few, check-sound}
-use Rattle.matrices.specs.Buffers.{matrixWords, matrixIn, Formed}
+use Rattle.weights.proofs.Checking.{few}
+use Rattle.matrices.specs.Buffers.{matrixWords, matrixIn}
 use Rattle.matrices.specs.Steps.{Matrix, solves, Given}
-use Rattle.routes.specs.declared.StepsAnswer.{StepsAnswer}
 use Rattle.routes.specs.declared.StepsAnswer.the-variants.{Done, Refused as StepsRefused}
-use Rattle.routes.specs.declared.EquationAnswer.{EquationAnswer}
 use Rattle.routes.specs.declared.EquationAnswer.the-variants.{Yes, No, Refused as EquationRefused}
-use Rattle.routes.specs.Checks.{manyCheck, listCheck, mostSteps}
-use Rattle.routes.specs.Calls.{matrixOf, freshCheck, freshLeftBy, freshLeft, stepOf, runOf, doneOf, matricesChecks, stepsCheck, StepsRow, stepsRowBy, stepsRow, stepsLeftBy, stepsLeft, stepsSaid, equationCheck, EquationRow, equationRowBy, equationRow, equationSaid}
-use Rattle.routes.specs.Ready.{Passing, AllSteps, runLeft, runDone}
+use Rattle.routes.specs.Checks.{manyCheck, listCheck}
+use Rattle.routes.specs.Calls.{matrixOf, freshCheck, freshLeftBy, freshLeft, stepOf, runOf, doneOf, matricesChecks, stepsCheck, stepsRowBy, stepsRow, stepsLeftBy, stepsLeft, stepsSaid, equationRowBy, equationRow, equationSaid}
+use Rattle.routes.specs.Ready.{Passing, runLeft, runDone}
 use Rattle.routes.proofs.Bridge.{buffer-goes, fresh-words, solves-go, run-bridge}
 use Rattle.routes.proofs.Order.{stops, goes-on, matrices-rest, passing-sound}
 use Rattle.routes.proofs.Lists.{all-in, list-passed}

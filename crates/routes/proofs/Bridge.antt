@@ -1,34 +1,31 @@
 -- The buffers read in the places and in the language: the same entries are malformed, and each weight in the places is the
 -- language's with words 0 after it. So steps done in the places are the language's steps.
-use Prim.Native.Nat.{ℕ, zero, suc, _+_, _*_, _-_, _≤_, _<_}
+use Prim.Native.Nat.{ℕ, zero, suc, _+_, _*_, _≤_, _<_}
 use mathlib.Core.Path.{_≡_, refl, sym, ap, ap₂, subst, _∙_}
 use mathlib.Core.Bool.{Bool, true, false, cond, _&&_}
 use mathlib.Core.List.{List, [], _∷_}
 use native.Mathlib.Omega.{arith}
 use native.Mathlib.Nat.{mul-le-mul-right}
 use lib.Dec.{eqb}
-use lib.ListN.{length, take, drop, length-take, length-drop}
-use Rattle.refusals.specs.declared.Refusal.the-variants.{Value}
-use Rattle.refusals.specs.declared.Check.{Check}
-use Rattle.refusals.specs.declared.Check.the-variants.{Refused}
+use lib.ListN.{length, length-take, length-drop}
 use Rattle.algebra.specs.Step.{Step, row, settle, fresh, routed, step}
 use Rattle.algebra.proofs.Embedding.{Embedding, Goes, GoesTo, fresh-goes, routed-goes, step-goes}
 use Rattle.weights.specs.declared.Component.{Component}
-use Rattle.weights.specs.declared.Component.the-variants.{Dist, Width, Class, Gain}
 use Rattle.weights.specs.declared.Places.{Places}
 use Rattle.weights.specs.Sizes.{places, weightWords}
 use Rattle.weights.specs.Weights.{Weight, none, route, Valid, ValidValues, Sound, language}
-use Rattle.weights.specs.Languages.{padded, placesOf, same, sameValues}
+use Rattle.weights.specs.Languages.{padded, placesOf}
+use Rattle.weights.specs.Values.{same, sameValues}
 use Rattle.weights.specs.Words.{filled, words}
 use Rattle.weights.proofs.Padding.{padWeight, padding, words-pad}
 use Rattle.weights.proofs.Readings.{well-read, well-valid, decoded-pad, good-pad}
-use Rattle.matrices.specs.Buffers.{blocks, matrixWords, entryPlace, wordsAt, cell, matrixIn, wellFormed, firstMalformed, matrixCheck, Square, Formed}
-use Rattle.matrices.specs.Steps.{Matrix, sumFits, sumsFit, weightFits, every, rowFits, solves, stepped, Given}
+use Rattle.matrices.specs.Buffers.{matrixWords, entryPlace, wordsAt, cell, matrixIn, wellFormed, matrixCheck, Square, Formed}
+use Rattle.matrices.specs.Steps.{Matrix, sumFits, sumsFit, weightFits, rowFits, solves, Given}
 use Rattle.matrices.proofs.Blocks.{blocks-cong, place-room}
 use Rattle.matrices.proofs.Entries.{matrix-self}
 use Rattle.matrices.proofs.Every.{every-cong}
 use Rattle.matrices.proofs.Kept.{row-entries, row-given, settle-entries, settle-given}
-use Rattle.matrices.proofs.Malformed.{entries-words}
+use Rattle.matrices.proofs.Malformed.{first-cong, entries-words}
 use Rattle.routes.specs.Calls.{stepFits, runOf, doneOf}
 use Rattle.routes.specs.Ready.{stepLeft, runLeft, runDone}
 
@@ -39,12 +36,6 @@ words-length s p h = simp (length-take, length-drop) (omega arith)
 
 well-pad : (cap : ℕ) (cs : List Component) (s : List ℕ) (p : ℕ) → length cs ≤ places → p + weightWords ≤ length s → wellFormed cap (padded places cs) s p ≡ wellFormed cap cs s p
 well-pad cap cs s p h k = good-pad cap places cs (wordsAt s p) h (words-length s p k)
-
-first-cong : (t u : ℕ → Bool) (size which e c : ℕ) → ((m : ℕ) → m < e + c → t (m * size) ≡ u (m * size)) → firstMalformed t size which e c ≡ firstMalformed u size which e c
-unfolding firstMalformed
-first-cong t u size which e zero same = refl
-first-cong t u size which e (suc c) same =
-    ap₂ (λ (b : Bool) (k : Check). cond b k (Refused (Value which (e * size)))) (same e (omega arith)) (first-cong t u size which (suc e) c (λ m l. same m (omega arith)))
 
 pub check-pad : (which cap : ℕ) (cs : List Component) (n : ℕ) (s : List ℕ) → length cs ≤ places → Square n s → matrixCheck which cap (padded places cs) n s ≡ matrixCheck which cap cs n s
 check-pad which cap cs n s h q =

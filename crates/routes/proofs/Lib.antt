@@ -1,5 +1,7 @@
 pub mod Bridge
 pub mod Order
+pub mod OneTeller
+pub mod Cases
 pub mod Lists
 pub mod Answers
 pub mod Unique

@@ -1,7 +1,7 @@
 -- Step lists, number by number: what a number means, the first that is no step, and a run one step further.
-use Prim.Native.Nat.{ℕ, zero, suc, _+_, _-_, _≤_, _<_}
-use mathlib.Core.Path.{_≡_, refl, sym, ap, ap₂, subst, _∙_}
-use mathlib.Core.Bool.{Bool, true, false, cond, _&&_, _||_}
+use Prim.Native.Nat.{ℕ, suc, _+_, _-_, _≤_, _<_}
+use mathlib.Core.Path.{_≡_, refl, sym, subst, _∙_}
+use mathlib.Core.Bool.{Bool, true, false, cond}
 use mathlib.Core.List.{List, [], _∷_, _++_, map}
 use native.Mathlib.Omega.{arith}
 use native.Mathlib.Numerals.{add-one}
@@ -10,7 +10,6 @@ use lib.ListN.{length, getD, drop, drop-of-length-le}
 use lib.Seq.{drop-cons}
 use borrow.Author.Tests.{leb-true, ltb-true, ltb-false, lt-ltb, le-ltb, lt-leb, le-leb}
 use Rattle.refusals.specs.declared.Refusal.the-variants.{NoSuch, TooMany}
-use Rattle.refusals.specs.declared.Check.{Check}
 use Rattle.refusals.specs.declared.Check.the-variants.{Passed, Refused}
 use Rattle.refusals.specs.Checks.{unless, firstOf}
 use Rattle.refusals.proofs.First.{passed-not}

@@ -1,7 +1,7 @@
 -- The checks of a call, group by group: which refusal is given, and what is known once all have passed.
-use Prim.Native.Nat.{ℕ, zero, suc, _*_, _≤_, _<_}
+use Prim.Native.Nat.{ℕ, _*_, _≤_, _<_}
 use mathlib.Core.Path.{_≡_, refl, sym, ap, ap₂, subst, _∙_}
-use mathlib.Core.Bool.{Bool, true, false, cond, _&&_, and-false}
+use mathlib.Core.Bool.{Bool, true, false, _&&_, and-false}
 use mathlib.Core.List.{List, [], _∷_, _++_}
 use native.Mathlib.Omega.{arith}
 use lib.Dec.{leb, ltb, eqb}
@@ -22,13 +22,17 @@ use Rattle.weights.specs.Laws.{testD, testU}
 use Rattle.weights.specs.Languages.{componentsOf, countCheck, limitCheck, languageCheck, padded, placesOf, SmallLimits}
 use Rattle.weights.proofs.Padding.{testD-pad, testU-pad, sound-pad, sound-unpad}
 use Rattle.weights.proofs.Checking.{few, check-sound}
-use Rattle.matrices.specs.Buffers.{Square, Formed}
+use Rattle.matrices.specs.Buffers.{Square}
 use Rattle.matrices.specs.Steps.{Given}
 use Rattle.matrices.proofs.Malformed.{check-formed}
 use Rattle.routes.specs.Checks.{nodesCheck, lengthCheck, lawDCheck, lawUCheck, arcsCheck, routesCheck, nodeCheck, mostNodes}
 use Rattle.routes.specs.Calls.{freshCheck, matricesChecks}
 use Rattle.routes.specs.Ready.{Passing}
 use Rattle.routes.proofs.Bridge.{check-pad}
+
+-- two refusals of one check are equal
+pub refused-one : {r s : Refusal} → Refused r ≡ Refused s → r ≡ s
+refused-one e = cc
 
 -- ---- one check after another
 
@@ -47,6 +51,16 @@ last {c} e = whole c ∙ sym e
     whole : (c : Check) → orElse c Passed ≡ c
     whole Passed = refl
     whole (Refused r) = refl
+
+-- the same of the code's answer k to a check c: k refuses, or k passes and the rest gives e, or k is all there is
+pub stopped : {c k : Check} {r : Refusal} (d : Check) → k ≡ c → k ≡ Refused r → Refused r ≡ orElse c d
+stopped d e q = sym (stops d (sym e ∙ q))
+
+pub went-on : {c k d e : Check} → k ≡ c → k ≡ Passed → e ≡ d → e ≡ orElse c d
+went-on e q h = sym (goes-on (sym e ∙ q) (sym h))
+
+pub ended : {c k : Check} → k ≡ c → k ≡ orElse c Passed
+ended e = sym (last e)
 
 -- two checks are one
 pub pair : (c d e : Check) → orElse c (orElse d e) ≡ orElse (firstOf (c ∷ d ∷ [])) e

@@ -1,16 +1,11 @@
 -- Two answers that meet one contract are equal.
 use Prim.Native.Nat.{ℕ}
 use mathlib.Core.Path.{_≡_, refl, sym, ap, ap₂, _∙_}
-use mathlib.Core.Bool.{Bool, true, false}
-use mathlib.Core.List.{List, [], _∷_}
-use mathlib.Core.Logic.{_↔_}
-use Rattle.refusals.specs.declared.Refusal.{Refusal}
-use Rattle.refusals.specs.declared.Check.{Check}
-use Rattle.refusals.specs.declared.Check.the-variants.{Passed, Refused}
+use mathlib.Core.Bool.{true}
+use mathlib.Core.List.{List}
 use Rattle.refusals.specs.declared.Answer.{Answer}
-use Rattle.refusals.specs.declared.Told.{Told}
 use Rattle.refusals.specs.Told.{told}
-use Rattle.refusals.specs.Checks.{firstOf, answerTold, checkTold}
+use Rattle.refusals.specs.Checks.{answerTold, checkTold}
 use Rattle.refusals.proofs.OneToOne.{told-one, told-not-done, answer-one}
 use Rattle.refusals.proofs.First.{passed-not}
 use Rattle.weights.specs.declared.Language.{Language}
@@ -22,8 +17,9 @@ use Rattle.routes.specs.declared.EquationAnswer.{EquationAnswer}
 use Rattle.routes.specs.declared.EquationAnswer.the-variants.{Yes, No, Refused as EquationRefused}
 use Rattle.routes.specs.declared.Ready.{Ready}
 use Rattle.routes.specs.declared.Ready.the-variants.{Given as Places-given, Refused as Call-refused}
-use Rattle.routes.specs.Calls.{freshCheck, StepsRow, stepsRow, stepsSaid, EquationRow, equationRow, equationSaid, matricesChecks}
+use Rattle.routes.specs.Calls.{freshCheck, StepsRow, stepsRow, stepsSaid, EquationRow, equationRow, equationSaid}
 use Rattle.routes.specs.Ready.{FreshReady, MatricesReady}
+use Rattle.routes.proofs.Order.{refused-one}
 
 pub fresh-answers-equal : (l : Language) (n : ℕ) (r : List ℕ) (x y : Answer) → answerTold x ≡ checkTold (freshCheck l n r) → answerTold y ≡ checkTold (freshCheck l n r) → x ≡ y
 fresh-answers-equal l n r x y p q = answer-one x y (p ∙ sym q)
@@ -53,20 +49,14 @@ equation-answers-equal l n a r x y p q = equation-one x y (p ∙ sym q)
 
 -- ---- the checks
 
-refused-one : {c : Check} {r s : Refusal} → c ≡ Refused r → c ≡ Refused s → r ≡ s
-refused-one p q = same (sym p ∙ q)
-  where
-    same : {r s : Refusal} → Refused r ≡ Refused s → r ≡ s
-    same e = cc
-
 pub ready-one : (l : Language) (n : ℕ) (a r : List ℕ) (x y : Ready) → MatricesReady l n a r x → MatricesReady l n a r y → x ≡ y
 ready-one l n a r (Places-given p) (Places-given q) h k = ap Places-given (places-one p q (h .1 .placed ∙ sym (k .1 .placed)))
 ready-one l n a r (Places-given p) (Call-refused s) h k = absurd (passed-not s (sym (h .0) ∙ k))
 ready-one l n a r (Call-refused s) (Places-given q) h k = absurd (passed-not s (sym (k .0) ∙ h))
-ready-one l n a r (Call-refused s) (Call-refused t) h k = ap Call-refused (refused-one h k)
+ready-one l n a r (Call-refused s) (Call-refused t) h k = ap Call-refused (refused-one (sym h ∙ k))
 
 pub fresh-ready-one : (l : Language) (n : ℕ) (r : List ℕ) (x y : Ready) → FreshReady l n r x → FreshReady l n r y → x ≡ y
 fresh-ready-one l n r (Places-given p) (Places-given q) h k = ap Places-given (places-one p q (h .1 .placed ∙ sym (k .1 .placed)))
 fresh-ready-one l n r (Places-given p) (Call-refused s) h k = absurd (passed-not s (sym (h .0) ∙ k))
 fresh-ready-one l n r (Call-refused s) (Places-given q) h k = absurd (passed-not s (sym (k .0) ∙ h))
-fresh-ready-one l n r (Call-refused s) (Call-refused t) h k = ap Call-refused (refused-one h k)
+fresh-ready-one l n r (Call-refused s) (Call-refused t) h k = ap Call-refused (refused-one (sym h ∙ k))

@@ -1,17 +1,16 @@
 -- The calls fresh, steps and equation (01, "Steps"): each call's checks in 01's order, its answer, and what its buffer holds then.
 -- To be believed: all of it.
-use Prim.Native.Nat.{ℕ, zero, suc, _-_}
+use Prim.Native.Nat.{ℕ, suc, _-_}
 use mathlib.Core.Bool.{Bool, true, false, cond}
 use mathlib.Core.List.{List, [], _∷_, map}
 use lib.Dec.{ltb}
 use lib.ListN.{length}
-use Rattle.refusals.specs.declared.Refusal.{Refusal}
 use Rattle.refusals.specs.declared.Refusal.the-variants.{Sum}
 use Rattle.refusals.specs.declared.Check.{Check}
 use Rattle.refusals.specs.declared.Check.the-variants.{Passed, Refused}
 use Rattle.refusals.specs.declared.Told.{Told}
 use Rattle.refusals.specs.Told.{told, done}
-use Rattle.refusals.specs.Checks.{firstOf, checkTold}
+use Rattle.refusals.specs.Checks.{firstOf}
 use Rattle.algebra.specs.Step.{Step, row, settle, fresh, step}
 use Rattle.weights.specs.declared.Component.{Component}
 use Rattle.weights.specs.declared.Language.{Language}
@@ -79,11 +78,11 @@ pub record StepsRow : Type 0 where
   pub done : ℕ
 
 -- done with all m steps, or refused 11 at step k
-abbrev pub ranRow : ℕ → ℕ → StepsRow
-ranRow k m = record { told = cond (ltb k m) (told (Sum 0 k)) done; done = k }
+abbrev pub rowAfterRun : ℕ → ℕ → StepsRow
+rowAfterRun k m = record { told = cond (ltb k m) (told (Sum 0 k)) done; done = k }
 
 abbrev pub stepsRowBy : Check → ℕ → ℕ → StepsRow
-stepsRowBy Passed k m = ranRow k m
+stepsRowBy Passed k m = rowAfterRun k m
 stepsRowBy (Refused x) k m = record { told = told x; done = 0 }
 
 abbrev pub stepsRow : Language → ℕ → List ℕ → List ℕ → List ℕ → StepsRow

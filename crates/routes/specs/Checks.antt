@@ -1,7 +1,7 @@
 -- The checks that the calls on a network share (01, "Refusal numbers"), each a refusal or none.
 -- To be believed: all of it.
-use Prim.Native.Nat.{ℕ, zero, suc, _-_, _*_}
-use mathlib.Core.Bool.{Bool, true, false, cond, _&&_, _||_}
+use Prim.Native.Nat.{ℕ, suc, _-_, _*_}
+use mathlib.Core.Bool.{Bool, cond, _&&_, _||_}
 use mathlib.Core.List.{List, [], _∷_}
 use lib.Dec.{leb, ltb, eqb}
 use lib.ListN.{length}
@@ -10,10 +10,8 @@ use Rattle.refusals.specs.declared.Check.{Check}
 use Rattle.refusals.specs.declared.Check.the-variants.{Passed, Refused}
 use Rattle.refusals.specs.Checks.{unless}
 use Rattle.weights.specs.declared.Component.{Component}
-use Rattle.weights.specs.declared.Language.{Language}
 use Rattle.weights.specs.Sizes.{weightWords, arcSum, matrixSum}
 use Rattle.weights.specs.Laws.{testD, testU}
-use Rattle.weights.specs.Languages.{componentsOf, countCheck, limitCheck}
 use Rattle.matrices.specs.Buffers.{matrixCheck}
 
 -- the most nodes of a network

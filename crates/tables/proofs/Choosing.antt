@@ -8,7 +8,7 @@ use Rattle.algebra.specs.Order.{Order, pick}
 use Rattle.weights.specs.declared.Comparison.the-variants.{Better, Equal, Worse}
 use Rattle.weights.specs.declared.Component.{Component}
 use Rattle.weights.specs.Weights.{Weight, better}
-use Rattle.weights.specs.Languages.{compared}
+use Rattle.weights.specs.Values.{compared}
 use Rattle.tables.specs.Entries.{firstThen}
 
 module _ (cs : List Component) (x y : Weight) (next : Bool) where

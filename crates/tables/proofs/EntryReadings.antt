@@ -15,7 +15,8 @@ use Rattle.weights.specs.declared.Read.the-variants.{Good, Malformed}
 use Rattle.weights.specs.declared.Weight as declared
 use Rattle.weights.specs.Sizes.{places, weightWords, entryWords, ones}
 use Rattle.weights.specs.Weights.{Weight, none, route}
-use Rattle.weights.specs.Languages.{placesOf, weightOf}
+use Rattle.weights.specs.Languages.{placesOf}
+use Rattle.weights.specs.Values.{weightOf}
 use Rattle.weights.specs.Words.{allAre, fits, Reading, good, malformed, reading, readOf}
 use Rattle.weights.proofs.Buffers.{four-words}
 use Rattle.tables.specs.declared.Mode.{Mode}

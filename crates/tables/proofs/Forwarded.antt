@@ -17,7 +17,8 @@ use Rattle.weights.specs.declared.Places.{Places}
 use Rattle.weights.specs.Sizes.{places, ones, arcSum, matrixSum, tableSum}
 use Rattle.weights.specs.Weights.{Weight, none, route, Valid, ValidValue, ValidValues, Sound, language}
 use Rattle.weights.specs.Laws.{testD, testU, testC}
-use Rattle.weights.specs.Languages.{placesOf, AtMost, AllAtMost}
+use Rattle.weights.specs.Languages.{placesOf}
+use Rattle.weights.specs.Values.{AtMost, AllAtMost}
 use Rattle.weights.specs.Words.{inRange, fits}
 use Rattle.weights.proofs.Ordering.{join-valid}
 use Rattle.weights.proofs.Languages.{lawful}

@@ -11,9 +11,9 @@ use Rattle.refusals.specs.declared.Refusal.the-variants.{Value}
 use Rattle.refusals.specs.declared.Check.the-variants.{Passed, Refused}
 use Rattle.weights.specs.declared.Component.{Component}
 use Rattle.weights.specs.Sizes.{entryWords}
-use Rattle.matrices.proofs.Malformed.{passes-all, all-passes, First, refuses-first}
+use Rattle.matrices.proofs.Malformed.{passes-all, all-passes, First, refuses-first, first-refuses}
 use Rattle.tables.specs.declared.Mode.{Mode}
-use Rattle.tables.specs.Tables.{tablePlace, wellFormedEntry, tableCheck, Sized, FormedTable}
+use Rattle.tables.specs.Tables.{tablePlace, wellFormedEntry, tableCheck, Sized, FormedTable, AtFirstEntry}
 use Rattle.tables.proofs.Rooms.{Counted, counted}
 
 -- entry (i, d) is entry i * m + d of the buffer
@@ -45,20 +45,22 @@ module _ (which : ℕ) (mode : Mode) (cap : ℕ) (cs : List Component) (n m : �
   pub check-exactly : (tableCheck which mode cap cs n m s ≡ Passed) ↔ FormedTable mode cap cs n m s
   check-exactly = (check-formed, formed-check)
 
-  -- the refusal is refusal 6 at entry (i, d), which is malformed, and every entry before it, by rows, is well-formed
-  pub record AtFirst (r : Refusal) : Type 0 where
-    pub node : ℕ
-    pub destination : ℕ
-    pub node-below : node < n
-    pub destination-below : destination < m
-    pub fails : wellFormedEntry mode cap cs s (tablePlace m node destination) ≡ false
-    pub before : (i d : ℕ) → i < n → d < m → i * m + d < node * m + destination → wellFormedEntry mode cap cs s (tablePlace m i d) ≡ true
-    pub told : r ≡ Value which (tablePlace m node destination)
-
-  pub check-refuses : (r : Refusal) → tableCheck which mode cap cs n m s ≡ Refused r → AtFirst r
-  check-refuses r e = at-first (refuses-first test entryWords which (n * m) 0 r e)
+  -- it refuses exactly at the first malformed entry
+  pub check-refuses : (r : Refusal) → (tableCheck which mode cap cs n m s ≡ Refused r) ↔ AtFirstEntry which mode cap cs n m s r
+  check-refuses r = (λ e. at-first (refuses-first test entryWords which (n * m) 0 r e), λ f. first-refuses test entryWords which (n * m) 0 r (first-at f))
     where
-      at-first : First test entryWords which 0 (n * m) r → AtFirst r
+      first-at : AtFirstEntry which mode cap cs n m s r → First test entryWords which 0 (n * m) r
+      first-at f =
+          let below : f .node * m + f .destination < n * m = entry-below n m (f .node) (f .destination) (f .node-below) (f .destination-below) in
+          record {
+            entries = f .node * m + f .destination;
+            within = below;
+            fails = subst (λ (k : ℕ). test k ≡ false) (sym (place-is m (f .node) (f .destination))) (f .fails);
+            before = λ e l. let g : Counted n m e = counted n m e (omega arith) in subst (λ (k : ℕ). test k ≡ true) (g .same ∙ sym (zero-more e)) (f .before (e / m) (e % m) (g .node) (g .destination) (omega (arith, div-add-mod' e m)));
+            told = f .told ∙ ap (Value which) (sym (place-is m (f .node) (f .destination)));
+          }
+
+      at-first : First test entryWords which 0 (n * m) r → AtFirstEntry which mode cap cs n m s r
       at-first f =
           let g : Counted n m (f .entries) = counted n m (f .entries) (f .within) in
           let q : (0 + f .entries) * entryWords ≡ tablePlace m (f .entries / m) (f .entries % m) = zero-more (f .entries) ∙ sym (g .same) in

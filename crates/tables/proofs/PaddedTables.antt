@@ -1,7 +1,7 @@
 -- Tables in the places are tables in the language: the same words are well-formed, and what forwarding writes is the forwarding sum
 -- over the language's own components.
-use Prim.Native.Nat.{ℕ, zero, suc, _+_, _*_, _/_, _%_, _≤_, _<_}
-use mathlib.Core.Path.{_≡_, refl, sym, ap, ap₂, _∙_, subst}
+use Prim.Native.Nat.{ℕ, _+_, _*_, _/_, _%_, _≤_, _<_}
+use mathlib.Core.Path.{_≡_, refl, sym, ap, _∙_, subst}
 use mathlib.Core.Bool.{Bool, true, false, cond, _&&_, false≢true}
 use mathlib.Core.List.{List, [], _∷_}
 use mathlib.Core.Logic.{_↔_}
@@ -10,9 +10,6 @@ use borrow.Author.Tests.{leb-true}
 use lib.Dec.{leb, eqb}
 use lib.ListN.{length, getD, take}
 use lib.Seq.{take-append-le}
-use Rattle.refusals.specs.declared.Refusal.the-variants.{Value}
-use Rattle.refusals.specs.declared.Check.{Check}
-use Rattle.refusals.specs.declared.Check.the-variants.{Refused}
 use Rattle.algebra.specs.Modes.{forwarded}
 use Rattle.algebra.proofs.Embedding.{GoesTo}
 use Rattle.algebra.proofs.Carrying.{Leads}
@@ -23,7 +20,7 @@ use Rattle.weights.specs.Languages.{padded}
 use Rattle.weights.specs.Words.{allAre, fits, good, malformed}
 use Rattle.weights.proofs.Padding.{padWeight}
 use Rattle.weights.proofs.Readings.{fits-pad, fits-filled, fits-valid}
-use Rattle.matrices.specs.Buffers.{firstMalformed}
+use Rattle.matrices.proofs.Malformed.{first-cong}
 use Rattle.tables.specs.declared.Mode.{Mode}
 use Rattle.tables.specs.Entries.{empty, mapped, largestT, ValidT, ValidEntry, modeOf}
 use Rattle.tables.specs.Tables.{wordsOf, goodEntry, badEntry, isRoute, readingEntry, isGoodEntry, decodedEntry, tableWords, tableIn, tablePlace, entryAt, wellFormedEntry, tableCheck, Sized, FormedTable}
@@ -31,16 +28,6 @@ use Rattle.tables.proofs.EntryReadings.{five-words, five-ones}
 use Rattle.tables.proofs.Rooms.{in-table, Counted, counted}
 use Rattle.tables.proofs.Padded.{padEntry, entry-words-pad, PadsTo, forwarded-pad}
 use Rattle.tables.proofs.TableBlocks.{table-cong}
-
--- the same first entry fails tests that agree on the entries
-first-cong : (t u : ℕ → Bool) (size which c e : ℕ) → ((k : ℕ) → k < c → t ((e + k) * size) ≡ u ((e + k) * size)) → firstMalformed t size which e c ≡ firstMalformed u size which e c
-unfolding firstMalformed
-first-cong t u size which zero e same = refl
-first-cong t u size which (suc c) e same =
-    let z : e + 0 ≡ e = omega arith in
-    let here : t (e * size) ≡ u (e * size) = subst (λ (k : ℕ). t (k * size) ≡ u (k * size)) z (same 0 (omega arith)) in
-    ap₂ (λ (b : Bool) (k : Check). cond b k (Refused (Value which (e * size)))) here
-    (first-cong t u size which c (suc e) (λ k l. let q : e + suc k ≡ suc e + k = omega arith in subst (λ (x : ℕ). t (x * size) ≡ u (x * size)) q (same (suc k) (omega arith))))
 
 module _ (cs : List Component) (h : length cs ≤ places) where
   module _ (mode : Mode) (cap : ℕ) where
@@ -119,13 +106,12 @@ module _ (cs : List Component) (h : length cs ≤ places) where
 -- refusal 6 on a table is given alike
 pub table-check-pad : (which : ℕ) (mode : Mode) (cap : ℕ) (cs : List Component) (n m : ℕ) (s : List ℕ) → length cs ≤ places → Sized n m s
     → tableCheck which mode cap (padded places cs) n m s ≡ tableCheck which mode cap cs n m s
-table-check-pad which mode cap cs n m s h z = first-cong _ _ entryWords which (n * m) 0 one
+table-check-pad which mode cap cs n m s h z = first-cong _ _ entryWords which 0 (n * m) one
   where
-    one : (e : ℕ) → e < n * m → wellFormedEntry mode cap (padded places cs) s ((0 + e) * entryWords) ≡ wellFormedEntry mode cap cs s ((0 + e) * entryWords)
+    one : (e : ℕ) → e < 0 + n * m → wellFormedEntry mode cap (padded places cs) s (e * entryWords) ≡ wellFormedEntry mode cap cs s (e * entryWords)
     one e l =
-        let g : Counted n m e = counted n m e l in
-        let q : tablePlace m (e / m) (e % m) ≡ (0 + e) * entryWords = g .same ∙ omega arith in
-        subst (λ (k : ℕ). wellFormedEntry mode cap (padded places cs) s k ≡ wellFormedEntry mode cap cs s k) q (same-good cs h mode cap n m s (e / m) (e % m) (in-table n m s z (e / m) (e % m) (g .node) (g .destination) .room))
+        let g : Counted n m e = counted n m e (omega arith) in
+        subst (λ (k : ℕ). wellFormedEntry mode cap (padded places cs) s k ≡ wellFormedEntry mode cap cs s k) (g .same) (same-good cs h mode cap n m s (e / m) (e % m) (in-table n m s z (e / m) (e % m) (g .node) (g .destination) .room))
 
 -- The words that forwarding writes are those of the forwarding sum over the language's own components, R in the places being R in the language.
 pub forward-words : (cs : List Component) (h : length cs ≤ places) (mode : Mode) (n m cap : ℕ) (R S : ℕ → ℕ → Weight) → GoesTo (language cs) (language (padded places cs)) (Valid cs) (padWeight places) n R S

@@ -14,7 +14,8 @@ use Rattle.weights.specs.declared.Component.{Component}
 use Rattle.weights.specs.declared.Places.{Places}
 use Rattle.weights.specs.Sizes.{places, ones, arcSum, matrixSum}
 use Rattle.weights.specs.Weights.{Weight, none, route, language}
-use Rattle.weights.specs.Languages.{placesOf, SmallLimits, AtMost}
+use Rattle.weights.specs.Languages.{placesOf, SmallLimits}
+use Rattle.weights.specs.Values.{AtMost}
 use Rattle.weights.specs.Words.{allAre, fits, good, malformed}
 use Rattle.weights.proofs.Readings.{fits-valid}
 use Rattle.matrices.specs.Buffers.{matrixIn}

@@ -6,18 +6,17 @@ use native.Mathlib.Omega.{arith}
 use Rattle.algebra.specs.Order.{pick, bestOf}
 use Rattle.algebra.specs.Path.{Matrix, ValidMatrix}
 use Rattle.algebra.specs.Best.{bestAmong, best}
-use Rattle.algebra.specs.Step.{Solves}
-use Rattle.algebra.specs.Modes.{ValidTable, forwarded, onward, Forwards}
+use Rattle.algebra.specs.Modes.{ValidTable, forwarded, onward}
 use Rattle.algebra.proofs.Reach.{best-solves}
 use Rattle.weights.specs.declared.Component.{Component}
 use Rattle.weights.specs.declared.Component.the-variants.{Dist, Width}
-use Rattle.weights.specs.Weights.{Weight, none, route, language}
-use Rattle.weights.specs.Laws.{LawD, LawU, BreaksC}
+use Rattle.weights.specs.Weights.{none, route, language}
 use Rattle.weights.proofs.Decided.{D-holds, U-holds, C-broken}
 use Rattle.weights.proofs.Languages.{lawful}
 use Rattle.tables.specs.declared.Mode.{Mode}
 use Rattle.tables.specs.declared.Mode.the-variants.{Hot, Cold}
 use Rattle.tables.specs.Entries.{Entry, empty, mapped, modeOf}
+use Rattle.tables.specs.Hot.{HotBreaks}
 
 -- ---- the printed case: arcs 0 to 1 of 2, 0 to 2 of 9, 1 to 2 of 3; destination 0 at node 1 with t 7 and at node 2 with t 4
 
@@ -97,16 +96,7 @@ hot-onward : onward (language wide) (modeOf Hot wide) 3 line ends (forwarded (la
 unfolding onward forwarded bestOf pick best bestAmong
 hot-onward = refl
 
--- Hot needs law C: D and U hold and C is broken, R satisfies the routing equation, and F does not satisfy F = (A applied to F) best M.
-pub record HotBreaks (cs : List Component) (n m : ℕ) (A R : Matrix (language cs)) (M : ℕ → ℕ → Entry) : Type 0 where
-  pub law-D : LawD cs
-  pub law-U : LawU cs
-  pub no-law-C : (s : Weight) × (x : Weight) × (y : Weight) × BreaksC cs s x y
-  pub arcs-valid : ValidMatrix (language cs) n A
-  pub table-valid : ValidTable (language cs) (modeOf Hot cs) n m M
-  pub solves : Solves (language cs) n A R
-  pub broken : ¬ Forwards (language cs) (modeOf Hot cs) n m A M (forwarded (language cs) (modeOf Hot cs) n R M)
-
+-- D and U hold here, and hot fails for want of law C.
 pub hot-needs-C : HotBreaks wide 3 1 line routes ends
 hot-needs-C = record {
   law-D = D-holds wide refl;

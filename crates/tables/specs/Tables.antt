@@ -6,6 +6,8 @@ use mathlib.Core.Bool.{Bool, true, false, cond, _&&_}
 use mathlib.Core.List.{List, [], _∷_, _++_}
 use lib.Dec.{leb}
 use lib.ListN.{length, getD, take, drop, replicate}
+use Rattle.refusals.specs.declared.Refusal.{Refusal}
+use Rattle.refusals.specs.declared.Refusal.the-variants.{Value}
 use Rattle.refusals.specs.declared.Check.{Check}
 use Rattle.weights.specs.declared.Component.{Component}
 use Rattle.weights.specs.Sizes.{weightWords, entryWords, ones}
@@ -99,3 +101,13 @@ pub record Sized (n m : ℕ) (s : List ℕ) : Type 0 where
 pub record FormedTable (mode : Mode) (cap : ℕ) (cs : List Component) (n m : ℕ) (s : List ℕ) : Type 0 where
   pub sized : Sized n m s
   pub reads : (i d : ℕ) → i < n → d < m → wellFormedEntry mode cap cs s (tablePlace m i d) ≡ true
+
+-- r is refusal 6 at entry (node, destination), which is malformed, and every entry before it, by rows, is well-formed
+pub record AtFirstEntry (which : ℕ) (mode : Mode) (cap : ℕ) (cs : List Component) (n m : ℕ) (s : List ℕ) (r : Refusal) : Type 0 where
+  pub node : ℕ
+  pub destination : ℕ
+  pub node-below : node < n
+  pub destination-below : destination < m
+  pub fails : wellFormedEntry mode cap cs s (tablePlace m node destination) ≡ false
+  pub before : (i d : ℕ) → i < n → d < m → i * m + d < node * m + destination → wellFormedEntry mode cap cs s (tablePlace m i d) ≡ true
+  pub told : r ≡ Value which (tablePlace m node destination)

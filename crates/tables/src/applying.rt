@@ -3,7 +3,8 @@ use super::Entry;
 use weights::Places;
 use weights::Weight;
 ghost use mathlib.Core.Path.{_≡_};
-ghost use Rattle.weights.specs.Languages.{placesOf, weightOf, AtMost};
+ghost use Rattle.weights.specs.Languages.{placesOf};
+ghost use Rattle.weights.specs.Values.{weightOf, AtMost};
 ghost use Rattle.tables.specs.Entries.{entryOf, withT, applied};
 ghost use Rattle.tables.specs.Parts.{weightIn};
 

@@ -7,7 +7,8 @@ use weights::Weight;
 ghost use mathlib.Core.Path.{_≡_};
 ghost use lib.Dec.{ltb};
 ghost use Rattle.algebra.specs.Order.{pick};
-ghost use Rattle.weights.specs.Languages.{placesOf, weightOf};
+ghost use Rattle.weights.specs.Languages.{placesOf};
+ghost use Rattle.weights.specs.Values.{weightOf};
 ghost use Rattle.tables.specs.Entries.{entryOf, byWeightThenT, byTThenWeight, comparing, betterEntry, modeOf};
 
 // By weight, then the smaller t.

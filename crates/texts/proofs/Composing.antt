@@ -63,32 +63,30 @@ module _ (mode t : ℕ) (xs : List ℕ) {s₀ s₁ : List ℕ} {at e₁ : ℕ} (
 
 -- ---- lines
 
-two-text : (a b w e : List ℕ) → a ++ (b ++ (w ++ e)) ≡ ((a ++ (b ++ [])) ++ w) ++ e
-two-text a b w e =
-    sym (append-assoc a b (w ++ e))
-    ∙ sym (append-assoc (a ++ b) w e)
-    ∙ ap (λ (z : List ℕ). ((a ++ z) ++ w) ++ e) (sym (append-nil b))
+-- a letter and two fields
+pub put-two : (letter x y : ℕ) {s₀ s₁ s₂ : List ℕ} {at e₁ e₂ : ℕ}
+    → Put 11 (set s₀ at letter) (at + 1) (field x) s₁ e₁ → Put 11 s₁ e₁ (field y) s₂ e₂
+    → Put 23 s₀ at (letter ∷ spaced (x ∷ y ∷ [])) s₂ e₂
+put-two letter x y {s₀ = s₀} {at = at} p q =
+    put-as (put-then (put-byte s₀ at letter) (put-then p q)) (ap (λ (z : List ℕ). letter ∷ (field x ++ z)) (sym (append-nil (field y)))) (omega arith)
 
--- a letter, two fields, what follows them and a line feed
-two-put : (letter k : ℕ) (a b w : List ℕ) {s₀ s₁ s₂ s₃ : List ℕ} {at e₁ e₂ e₃ : ℕ}
-    → Put 11 (set s₀ at letter) (at + 1) a s₁ e₁ → Put 11 s₁ e₁ b s₂ e₂ → Put k s₂ e₂ w s₃ e₃
-    → Put (k + 24) s₀ at (letter ∷ (((a ++ (b ++ [])) ++ w) ++ (feedByte ∷ []))) (set s₃ e₃ feedByte) (e₃ + 1)
-two-put letter k a b w {s₀ = s₀} {s₃ = s₃} {at = at} {e₃ = e₃} p q r =
-    put-as (put-then (put-byte s₀ at letter) (put-then p (put-then q (put-then r (put-byte s₃ e₃ feedByte)))))
-    (ap (λ (z : List ℕ). letter ∷ z) (two-text a b w (feedByte ∷ [])))
-    (omega arith)
+-- what follows them, and a line feed
+line-put : (letter k : ℕ) (a w : List ℕ) {s₀ s₁ s₂ : List ℕ} {at e₁ e₂ : ℕ}
+    → Put 23 s₀ at (letter ∷ a) s₁ e₁ → Put k s₁ e₁ w s₂ e₂
+    → Put (k + 24) s₀ at (letter ∷ ((a ++ w) ++ (feedByte ∷ []))) (set s₂ e₂ feedByte) (e₂ + 1)
+line-put letter k a w {s₂ = s₂} {e₂ = e₂} p q = put-as (put-then (put-then p q) (put-byte s₂ e₂ feedByte)) refl (omega arith)
 
-pub put-route : (i j : ℕ) (w : Weight) {s₀ s₁ s₂ s₃ : List ℕ} {at e₁ e₂ e₃ : ℕ}
-    → Put 11 (set s₀ at 82) (at + 1) (field i) s₁ e₁ → Put 11 s₁ e₁ (field j) s₂ e₂ → Put 44 s₂ e₂ (weightText w) s₃ e₃
-    → Put 68 s₀ at (routeLine i j w) (set s₃ e₃ feedByte) (e₃ + 1)
+pub put-route : (i j : ℕ) (w : Weight) {s₀ s₁ s₂ : List ℕ} {at e₁ e₂ : ℕ}
+    → Put 23 s₀ at (82 ∷ spaced (i ∷ j ∷ [])) s₁ e₁ → Put 44 s₁ e₁ (weightText w) s₂ e₂
+    → Put 68 s₀ at (routeLine i j w) (set s₂ e₂ feedByte) (e₂ + 1)
 unfolding routeLine
-put-route i j w p q r = two-put 82 44 (field i) (field j) (weightText w) p q r
+put-route i j w p q = line-put 82 44 (spaced (i ∷ j ∷ [])) (weightText w) p q
 
-pub put-entry : (mode i d : ℕ) (e : Entry) {s₀ s₁ s₂ s₃ : List ℕ} {at e₁ e₂ e₃ : ℕ}
-    → Put 11 (set s₀ at 70) (at + 1) (field i) s₁ e₁ → Put 11 s₁ e₁ (field d) s₂ e₂ → Put 55 s₂ e₂ (entryText mode e) s₃ e₃
-    → Put 79 s₀ at (entryLine mode i d e) (set s₃ e₃ feedByte) (e₃ + 1)
+pub put-entry : (mode i d : ℕ) (e : Entry) {s₀ s₁ s₂ : List ℕ} {at e₁ e₂ : ℕ}
+    → Put 23 s₀ at (70 ∷ spaced (i ∷ d ∷ [])) s₁ e₁ → Put 55 s₁ e₁ (entryText mode e) s₂ e₂
+    → Put 79 s₀ at (entryLine mode i d e) (set s₂ e₂ feedByte) (e₂ + 1)
 unfolding entryLine
-put-entry mode i d e p q r = two-put 70 55 (field i) (field d) (entryText mode e) p q r
+put-entry mode i d e p q = line-put 70 55 (spaced (i ∷ d ∷ [])) (entryText mode e) p q
 
 three-text : (a b c e : List ℕ) → a ++ (b ++ (c ++ e)) ≡ (a ++ (b ++ (c ++ []))) ++ e
 three-text a b c e =

@@ -12,26 +12,33 @@ use Rattle.decimals.specs.Digits.{decimal}
 
 -- ---- bytes
 
+-- a space
 abbrev pub spaceByte : ℕ
 spaceByte = 32
 
+-- the end of a line
 abbrev pub feedByte : ℕ
 feedByte = 10
 
+-- "-", for no route or empty
 abbrev pub dashByte : ℕ
 dashByte = 45
 
--- the words that lines begin with
+-- ---- the words that lines begin with
 
+-- LAWS
 abbrev pub wordLaws : List ℕ
 wordLaws = 76 ∷ 65 ∷ 87 ∷ 83 ∷ []
 
+-- R
 abbrev pub wordR : List ℕ
 wordR = 82 ∷ []
 
+-- F
 abbrev pub wordF : List ℕ
 wordF = 70 ∷ []
 
+-- REFUSED
 abbrev pub wordRefused : List ℕ
 wordRefused = 82 ∷ 69 ∷ 70 ∷ 85 ∷ 83 ∷ 69 ∷ 68 ∷ []
 
@@ -93,6 +100,7 @@ refusedLine t = line wordRefused (spaced (t .number ∷ t .which ∷ t .place �
 
 -- ---- by rows
 
+-- the R lines of row i
 abbrev pub routeRow : ℕ → (ℕ → ℕ → Weight) → ℕ → List ℕ
 routeRow n R i = blocks n (λ j. routeLine i j (R i j))
 
@@ -100,6 +108,7 @@ routeRow n R i = blocks n (λ j. routeLine i j (R i j))
 abbrev pub routeLines : ℕ → (ℕ → ℕ → Weight) → List ℕ
 routeLines n R = blocks n (routeRow n R)
 
+-- the F lines of node i
 abbrev pub entryRow : ℕ → ℕ → (ℕ → ℕ → Entry) → ℕ → List ℕ
 entryRow mode m F i = blocks m (λ d. entryLine mode i d (F i d))
 

@@ -9,25 +9,35 @@ ghost use mathlib.Core.List.{[], _∷_, _++_};
 ghost use Prim.Native.Nat.{_+_, _≤_};
 ghost use lib.ListN.{length};
 ghost use Rattle.decimals.specs.Texts.{Put};
-ghost use Rattle.weights.specs.Languages.{weightOf};
+ghost use Rattle.weights.specs.Values.{weightOf};
 ghost use Rattle.tables.specs.Entries.{entryOf};
 ghost use Rattle.texts.specs.Lines.{feedByte, spaced, routeLine, entryLine, refusedLine, lawsLine};
 ghost use Rattle.texts.specs.Parts.{firstValues, firstOfEntry};
 
+// The byte that ends a line.
 const FEED: u8 = 10;
 
+// The letter of a route's line, and of a forwarding entry's.
 const LETTER_R: u8 = 82;
 
 const LETTER_F: u8 = 70;
+
+// Puts a letter and two fields.
+fn put_letter(letter: u8, x: u32, y: u32, at: usize, out: &mut [u8]) -> usize
+    requires { ⌜ at + 23 ≤ length (now out) ⌝ }
+    ensures { λ r. ⌜ Put 23 (now (out .entry)) at (letter ∷ spaced (x ∷ y ∷ [])) (now (out .exit)) r ⌝ }
+{
+    out[at] = letter;
+    let one = put_field(x, at + 1, out);
+    put_field(y, one, out)
+}
 
 // Puts the line of a route.
 pub fn put_route_line(count: u32, i: u32, j: u32, w: Weight, at: usize, out: &mut [u8]) -> usize
     requires { ⌜ (at + 68 ≤ length (now out)) × (count ≤ 4) ⌝ }
     ensures { λ r. ⌜ Put 68 (now (out .entry)) at (routeLine i j (firstValues count (weightOf w))) (now (out .exit)) r ⌝ }
 {
-    out[at] = LETTER_R;
-    let one = put_field(i, at + 1, out);
-    let two = put_field(j, one, out);
+    let two = put_letter(LETTER_R, i, j, at, out);
     let end = put_weight(count, w, two, out);
     out[end] = FEED;
     end + 1
@@ -46,9 +56,7 @@ pub fn put_entry_line(
     requires { ⌜ (at + 79 ≤ length (now out)) × (count ≤ 4) ⌝ }
     ensures { λ r. ⌜ Put 79 (now (out .entry)) at (entryLine mode i d (firstOfEntry count (entryOf e))) (now (out .exit)) r ⌝ }
 {
-    out[at] = LETTER_F;
-    let one = put_field(i, at + 1, out);
-    let two = put_field(d, one, out);
+    let two = put_letter(LETTER_F, i, d, at, out);
     let end = put_entry(count, mode, e, two, out);
     out[end] = FEED;
     end + 1

@@ -7,11 +7,12 @@ ghost use mathlib.Core.List.{[], _∷_};
 ghost use Prim.Native.Nat.{_+_, _≤_};
 ghost use lib.ListN.{length, take};
 ghost use Rattle.decimals.specs.Texts.{Put};
-ghost use Rattle.weights.specs.Languages.{weightOf};
+ghost use Rattle.weights.specs.Values.{weightOf};
 ghost use Rattle.tables.specs.Entries.{entryOf};
 ghost use Rattle.texts.specs.Lines.{field, spaced, missing, weightText, entryText};
 ghost use Rattle.texts.specs.Parts.{firstValues, firstOfEntry};
 
+// The bytes of a space and of "-".
 const SPACE: u8 = 32;
 
 const DASH: u8 = 45;
@@ -39,6 +40,7 @@ fn put_field_if(there: bool, x: u32, at: usize, out: &mut [u8]) -> usize
     at
 }
 
+// Puts "-" for no route or empty.
 fn put_missing(at: usize, out: &mut [u8]) -> usize
     requires { ⌜ at + 2 ≤ length (now out) ⌝ }
     ensures { λ r. ⌜ Put 2 (now (out .entry)) at missing (now (out .exit)) r ⌝ }

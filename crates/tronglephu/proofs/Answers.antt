@@ -2,18 +2,17 @@
 -- lends names the row that is lent.
 use Prim.Native.Nat.{ℕ, _≤_, _<_}
 use mathlib.Core.Path.{_≡_, refl, sym, ap, _∙_}
-use mathlib.Core.Bool.{Bool, true, false, cond}
+use mathlib.Core.Bool.{Bool, true, false}
 use mathlib.Core.List.{List, [], _∷_, _++_}
 use native.Mathlib.Omega.{arith}
 use borrow.Author.Tests.{le-leb, lt-leb, leb-true}
-use lib.Dec.{eqb}
 use lib.ListN.{length, drop}
 use Rattle.refusals.specs.declared.Refusal.{Refusal}
 use Rattle.refusals.specs.declared.Refusal.the-variants.{Length}
 use Rattle.refusals.specs.declared.Check.{Check}
 use Rattle.refusals.specs.declared.Check.the-variants.{Passed, Refused}
 use Rattle.refusals.specs.Told.{told, done}
-use Rattle.refusals.specs.Checks.{orElse, firstOf}
+use Rattle.refusals.specs.Checks.{orElse}
 use Rattle.refusals.proofs.OneToOne.{told-one, told-not-done}
 use Rattle.refusals.proofs.First.{first-passes}
 use Rattle.numbers.specs.declared.Node.{Node}
@@ -25,19 +24,19 @@ use Rattle.laws.specs.declared.LawAnswer.the-variants.{Laws, Refused as NoLaws}
 use Rattle.laws.specs.Report.{Report, reportOf, report, lawOf, answerRow}
 use Rattle.routes.specs.Checks.{nodeCheck}
 use Rattle.routes.specs.Calls.{matricesChecks}
-use Rattle.routes.proofs.Order.{pair, stops, goes-on, nodes-passed, unless-passes, passed-both}
-use Rattle.hops.specs.declared.HopAnswer.the-variants.{Hop, NoHop, Refused as HopRefused}
+use Rattle.routes.proofs.Order.{pair, stops, goes-on, nodes-passed, unless-passes}
+use Rattle.hops.specs.declared.HopAnswer.the-variants.{Hop, Refused as HopRefused}
 use Rattle.hops.specs.Calls.{HopRow, hopRow, hopSaid}
 use Rattle.hops.proofs.Exact.{hop-given}
-use Rattle.handover.specs.Calls.{handoverCheck, isBest, lenderRowBy, rowPart, lentRowBy, lentRow}
+use Rattle.handover.specs.Calls.{handoverCheck, isBest, lenderRowBy, lentRowBy, lentRow}
 use Rattle.files.specs.declared.ReadAnswer.the-variants.{Done, Refused as ReadRefused}
 use Rattle.files.specs.Answers.{Row, fileRow, arcsAfter, mappingAfter, ReadSays}
 use Rattle.door.specs.declared.Reply.{Reply}
-use Rattle.door.specs.Replies.{replyOf, isDone}
+use Rattle.door.specs.Replies.{replyOf}
 use Rattle.door.specs.Reports.{reportWords, lawsWords, heldLaws}
 use Rattle.door.specs.Problems.{problemWords, problemOf}
 use Rattle.door.proofs.Back.{refusal-not-done}
-use Rattle.tronglephu.specs.Calls.{roomFor, roomCheck, readReplyBy, readReply, leftBy, arcsLeft, mappingLeft, problemAfter, problemLeft, lawsCheck, lawsReplyBy, lawsReply, reportLeftBy, reportLeft, hopReplyOf, handoverReply}
+use Rattle.tronglephu.specs.Calls.{roomFor, roomCheck, readReplyBy, readReply, leftBy, arcsLeft, mappingLeft, problemAfter, problemLeft, lawsCheck, lawsReplyBy, lawsReply, reportLeftBy, reportLeft, hopReplyOf, handoverReply, rowLentBy}
 
 -- ---- any call
 
@@ -150,15 +149,11 @@ hop-small l n a r i j k e =
 
 -- ---- handover
 
--- the row that the forwarder gets, by the number of the buffer that lends: none where the call refuses
-abbrev pub rowOf : ℕ → ℕ → ℕ → List ℕ → List ℕ → List ℕ
-rowOf buffer n i standing newer = cond (eqb buffer 2) (rowPart n i newer) (cond (eqb buffer 5) (rowPart n i standing) [])
-
--- it is the row that is lent
-pub row-lent : (l : Language) (n : ℕ) (a standing newer : List ℕ) (i : ℕ) → lentRow l n a standing newer i ≡ rowOf (handoverReply l n a standing newer i .value) n i standing newer
+-- the row of the buffer that the reply numbers is the row that is lent
+pub row-lent : (l : Language) (n : ℕ) (a standing newer : List ℕ) (i : ℕ) → lentRow l n a standing newer i ≡ rowLentBy (handoverReply l n a standing newer i .value) n i standing newer
 row-lent l n a standing newer i = go (handoverCheck l n a standing newer i) (isBest l n a newer)
   where
-    go : (c : Check) (b : Bool) → lentRowBy c b n i standing newer ≡ rowOf (lenderRowBy c b .buffer) n i standing newer
+    go : (c : Check) (b : Bool) → lentRowBy c b n i standing newer ≡ rowLentBy (lenderRowBy c b .buffer) n i standing newer
     go Passed true = refl
     go Passed false = refl
     go (Refused x) b = refl

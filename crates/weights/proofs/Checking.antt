@@ -1,18 +1,17 @@
 -- The check of a language: what it refuses, and that what passes has sound limits.
 use Prim.Native.Nat.{ℕ, zero, suc, _≤_, _<_}
-use mathlib.Core.Path.{_≡_, refl, sym, ap, subst, _∙_}
+use mathlib.Core.Path.{_≡_, refl, sym, ap, _∙_}
 use mathlib.Core.Bool.{Bool, true, false, cond, _&&_, and-false}
 use mathlib.Core.List.{List, [], _∷_}
 use mathlib.Core.Logic.{_↔_}
 use native.Mathlib.Omega.{arith}
-use borrow.Author.Tests.{lt-leb, le-leb, leb-true, lt-ltb, le-ltb}
+use borrow.Author.Tests.{lt-leb, le-leb, leb-true, lt-ltb}
 use lib.Dec.{leb, ltb}
 use lib.ListN.{length, take, length-take}
-use Rattle.refusals.specs.declared.Refusal.{Refusal}
 use Rattle.refusals.specs.declared.Refusal.the-variants.{BadComponent, BadCount}
 use Rattle.refusals.specs.declared.Check.{Check}
 use Rattle.refusals.specs.declared.Check.the-variants.{Passed, Refused}
-use Rattle.refusals.specs.Checks.{unless, orElse, firstOf}
+use Rattle.refusals.specs.Checks.{unless, orElse}
 use Rattle.refusals.proofs.First.{passed-not, first-passes}
 use Rattle.weights.specs.declared.Component.{Component}
 use Rattle.weights.specs.declared.Component.the-variants.{Dist, Width, Class, Gain}

@@ -1,17 +1,17 @@
 -- Comparing by the first difference, and what each of the three answers says of "better" and "same".
 use Prim.Native.Nat.{ℕ}
-use mathlib.Core.Path.{_≡_, refl, sym, ap, ap₂, subst, _∙_}
+use mathlib.Core.Path.{_≡_, refl, ap, ap₂, subst, _∙_}
 use mathlib.Core.Bool.{Bool, true, false, not, cond, _&&_}
 use mathlib.Core.List.{List, [], _∷_}
 use mathlib.Core.Logic.{_↔_}
 use native.Mathlib.Omega.{arith}
 use lib.Dec.{eqb}
-use borrow.Author.Tests.{eq-eqb, ne-eqb, eqb-true}
+use borrow.Author.Tests.{eq-eqb, eqb-true}
 use Rattle.weights.specs.declared.Component.{Component}
 use Rattle.weights.specs.declared.Comparison.{Comparison}
 use Rattle.weights.specs.declared.Comparison.the-variants.{Better, Equal, Worse}
-use Rattle.weights.specs.Weights.{Weight, none, route, Valid, betterValue, betterValues, better}
-use Rattle.weights.specs.Languages.{isRoute, compared, same, sameValues}
+use Rattle.weights.specs.Weights.{Weight, none, route, Valid, betterValue, better}
+use Rattle.weights.specs.Values.{isRoute, compared, same, sameValues}
 use Rattle.weights.proofs.Ordering.{Three, ahead, level, behind, three1, lt-better, lt-worse, clash, irrefl, asym, antisym}
 
 -- values that differ decide

@@ -1,17 +1,17 @@
 -- The tests decide the laws, and the witnesses break them.
-use Prim.Native.Nat.{ℕ, _+_, _≤_, _<_, min, max}
+use Prim.Native.Nat.{ℕ}
 use mathlib.Core.Path.{_≡_, refl, sym, ap, ap₂, subst, _∙_}
 use mathlib.Core.Bool.{Bool, true, false, not, cond, _&&_, _||_}
 use mathlib.Core.List.{List, [], _∷_}
-use mathlib.Core.Logic.{_⊎_, inl, inr, ⊎-elim, _↔_}
+use mathlib.Core.Logic.{⊎-elim, _↔_}
 use native.Mathlib.Omega.{arith}
-use lib.Dec.{ltb, eqb}
+use lib.Dec.{eqb}
 use borrow.Author.Tests.{eqb-true, eqb-false, not-true, not-false}
 use Rattle.weights.specs.declared.Component.{Component}
 use Rattle.weights.specs.declared.Component.the-variants.{Dist, Width, Class, Gain}
-use Rattle.weights.specs.Weights.{Weight, none, route, Valid, ValidValues, ValidValue, Sound, SoundLimit, better, betterValues, betterValue, join, joinValues, joinValue, unit, unitValues, unitValue, betterOf, IsRoute, trivial}
+use Rattle.weights.specs.Weights.{Weight, none, route, Valid, ValidValues, ValidValue, Sound, SoundLimit, better, betterValues, join, joinValues, joinValue, unit, unitValues, unitValue, betterOf, IsRoute, trivial}
 use Rattle.weights.specs.Laws.{LawD, LawU, LawC, lossy, isGain, nonTrivial, someNonTrivial, lossyBefore, testD, testU, testC, worst, worseOfTwo, betterOfTwo, atFirst, sD, xD, yD, xU, sC, BreaksD, BreaksU, BreaksC}
-use Rattle.weights.proofs.Ordering.{NoWorse, Lt1, Three, ahead, level, behind, three1, lt-better, lt-ne, mono1, unit-joinValue, unit-valid1, comm1, head-ahead, head-behind, head-level, clash, irreflV, unit-joinValues, join-validV, unit-validV, commV, irrefl, asym, total, antisym, join-valid, betterOf-first, betterOf-second, ThreeW, before, equal, after}
+use Rattle.weights.proofs.Ordering.{NoWorse, Lt1, Three, ahead, level, behind, three1, lt-ne, mono1, unit-valid1, head-ahead, head-behind, head-level, clash, irreflV, unit-joinValues, join-validV, unit-validV, irrefl, asym, total, antisym, join-valid, betterOf-first, betterOf-second, ThreeW, before, equal, after}
 
 -- ---- truth values
 

@@ -2,18 +2,17 @@
 use Prim.Native.Nat.{ℕ}
 use mathlib.Core.Path.{_≡_, refl}
 use mathlib.Core.Bool.{true, false}
-use mathlib.Core.List.{List, [], _∷_}
-use Rattle.algebra.specs.Algebra.{Algebra, order, Lawful}
+use mathlib.Core.List.{List}
+use Rattle.algebra.specs.Algebra.{order, Lawful}
 use Rattle.algebra.specs.Order.{Ordered}
 use Rattle.algebra.specs.Path.{Matrix, ValidMatrix}
-use Rattle.algebra.specs.Network.{Network}
 use Rattle.algebra.specs.Step.{Step}
 use Rattle.algebra.specs.Demand.{Demand3}
 use Rattle.algebra.proofs.Demands.{demand-3}
 use Rattle.weights.specs.declared.Component.{Component}
-use Rattle.weights.specs.Weights.{Weight, none, route, Valid, Sound, better, join, unit, language}
+use Rattle.weights.specs.Weights.{Weight, none, route, Sound, better, join, language}
 use Rattle.weights.specs.Laws.{LawD, LawU, testD, testU}
-use Rattle.weights.proofs.Ordering.{NoWorse, irrefl, asym, antisym, noWorse-trans, join-comm, join-assoc, join-unit, join-valid, unit-valid}
+use Rattle.weights.proofs.Ordering.{irrefl, asym, antisym, noWorse-trans, join-comm, join-assoc, join-unit, join-valid, unit-valid}
 use Rattle.weights.proofs.Decided.{monotone, U-holds, D-exact, U-exact}
 
 pub ordered : (cs : List Component) → Ordered (order (language cs))

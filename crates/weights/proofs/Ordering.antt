@@ -1,13 +1,12 @@
 -- The order of weights and their join: what holds in every language.
-use Prim.Native.Nat.{ℕ, _+_, _≤_, _<_, min, max}
-use mathlib.Core.Path.{_≡_, refl, sym, ap, ap₂, subst, _∙_}
-use mathlib.Core.Bool.{Bool, true, false, not, cond}
+use Prim.Native.Nat.{ℕ, _<_, min, max}
+use mathlib.Core.Path.{_≡_, refl, sym, ap, ap₂, _∙_}
+use mathlib.Core.Bool.{Bool, true, false}
 use mathlib.Core.List.{List, [], _∷_}
-use mathlib.Core.Logic.{_⊎_, inl, inr, ⊎-elim}
+use mathlib.Core.Logic.{_⊎_, inl, inr}
 use native.Mathlib.Decide.{decLt}
 use native.Mathlib.Omega.{arith}
-use lib.Dec.{ltb, eqb}
-use borrow.Author.Tests.{lt-ltb, le-ltb, eq-eqb, ne-eqb, eqb-true, eqb-false, ltb-true, ltb-false}
+use borrow.Author.Tests.{lt-ltb, le-ltb, eq-eqb, ne-eqb}
 use Rattle.algebra.specs.Order.{pick}
 use Rattle.weights.specs.declared.Component.{Component}
 use Rattle.weights.specs.declared.Component.the-variants.{Dist, Width, Class, Gain}
@@ -254,17 +253,6 @@ antisym cs x y v w p q = go (total cs x y v w)
     go (before a b) = clash (better cs x y) a q
     go (equal e) = e
     go (after a b) = clash (better cs y x) a p
-
-pub noWorse-refl : (cs : List Component) (x : Weight) → NoWorse cs x x
-noWorse-refl cs x = irrefl cs x
-
-pub noWorse-total : (cs : List Component) (x y : Weight) → Valid cs x → Valid cs y → NoWorse cs x y ⊎ NoWorse cs y x
-noWorse-total cs x y v w = go (total cs x y v w)
-  where
-    go : ThreeW cs x y → NoWorse cs x y ⊎ NoWorse cs y x
-    go (before a b) = inl b
-    go (equal e) = inl (rw e (irrefl cs y))
-    go (after a b) = inr b
 
 pub noWorse-trans : (cs : List Component) (x y z : Weight) → Valid cs x → Valid cs y → Valid cs z → NoWorse cs x y → NoWorse cs y z → NoWorse cs x z
 noWorse-trans cs x y z vx vy vz p q = go (total cs x y vx vy) (total cs y z vy vz)

@@ -1,13 +1,9 @@
 -- What the contracts say of a weight, a reading or a check pins it: two answers that meet one contract are equal.
-use Prim.Native.Nat.{ℕ}
 use mathlib.Core.Path.{_≡_, refl, sym, ap, _∙_}
 use mathlib.Core.Bool.{true, false}
-use mathlib.Core.List.{List, [], _∷_}
 use Rattle.refusals.specs.declared.Refusal.{Refusal}
-use Rattle.refusals.specs.declared.Check.{Check}
-use Rattle.refusals.specs.declared.Check.the-variants.{Passed, Refused}
+use Rattle.refusals.specs.declared.Check.the-variants.{Refused}
 use Rattle.refusals.proofs.First.{passed-not}
-use Rattle.weights.specs.declared.Component.{Component}
 use Rattle.weights.specs.declared.Language.{Language}
 use Rattle.weights.specs.declared.Places.{Places}
 use Rattle.weights.specs.declared.Checked.{Checked}
@@ -16,7 +12,8 @@ use Rattle.weights.specs.declared.Weight as declared
 use Rattle.weights.specs.declared.Weight.the-variants.{Route, NoRoute}
 use Rattle.weights.specs.declared.Read.{Read}
 use Rattle.weights.specs.declared.Read.the-variants.{Good, Malformed}
-use Rattle.weights.specs.Languages.{weightOf, placesOf, CheckSays, languageCheck}
+use Rattle.weights.specs.Languages.{placesOf, CheckSays}
+use Rattle.weights.specs.Values.{weightOf}
 use Rattle.weights.specs.Words.{readOf}
 use Rattle.weights.proofs.Ordering.{clash}
 

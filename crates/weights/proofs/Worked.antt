@@ -1,11 +1,9 @@
 -- P1 to P4 of 01, about the definitions alone.
-use Prim.Native.Nat.{ℕ}
-use mathlib.Core.Path.{_≡_, refl}
-use mathlib.Core.List.{List, [], _∷_}
+use mathlib.Core.Path.{refl}
+use mathlib.Core.List.{[], _∷_}
 use lib.Dec.{lit≤}
-use Rattle.weights.specs.declared.Component.{Component}
 use Rattle.weights.specs.declared.Component.the-variants.{Dist, Width, Gain}
-use Rattle.weights.specs.Weights.{Weight, route}
+use Rattle.weights.specs.Weights.{route}
 use Rattle.weights.specs.Laws.{LawD, LawU, LawC, BreaksD, BreaksU, BreaksC}
 use Rattle.weights.proofs.Decided.{D-holds, D-broken, U-holds, U-broken, C-holds, C-broken}
 

@@ -11,7 +11,7 @@ use Rattle.weights.specs.declared.Read.{Read}
 use Rattle.weights.specs.declared.Read.the-variants.{Good, Malformed}
 use Rattle.weights.specs.Sizes.{weightWords, ones}
 use Rattle.weights.specs.Weights.{Weight, none, route}
-use Rattle.weights.specs.Languages.{weightOf}
+use Rattle.weights.specs.Values.{weightOf}
 
 -- the values, and 0 in each word after them, n words in all
 abbrev pub filled : ℕ → List ℕ → List ℕ

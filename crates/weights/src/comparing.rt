@@ -6,8 +6,9 @@ use super::Weight;
 ghost use mathlib.Core.Path.{_≡_};
 ghost use mathlib.Core.Bool.{cond, false};
 ghost use Rattle.weights.specs.declared.Comparison.the-variants.{Better, Worse};
-ghost use Rattle.weights.specs.Weights.{betterValue, better, betterOf};
-ghost use Rattle.weights.specs.Languages.{placesOf, weightOf, isRoute, compared, same};
+ghost use Rattle.weights.specs.Weights.{none, betterValue, better, betterOf};
+ghost use Rattle.weights.specs.Languages.{placesOf};
+ghost use Rattle.weights.specs.Values.{weightOf, isRoute, compared, same};
 
 fn verdict(better: bool) -> Comparison
     ensures { λ r. ⌜ r ≡ cond better Better Worse ⌝ }
@@ -37,6 +38,7 @@ fn compare_value(c: Component, x: u32, y: u32) -> Comparison
     verdict(better)
 }
 
+// The weight is a route.
 fn is_route(w: Weight) -> bool
     ensures { λ b. ⌜ b ≡ isRoute (weightOf w) ⌝ }
 {
@@ -52,6 +54,16 @@ fn is_route(w: Weight) -> bool
     true
 }
 
+// No route against a weight.
+fn none_against(p: Places, y: Weight) -> Comparison
+    ensures { λ r. ⌜ r ≡ compared (placesOf p) none (weightOf y) ⌝ }
+{
+    if is_route(y) {
+        return Comparison::Worse;
+    }
+    Comparison::Equal
+}
+
 // Better, equal or worse.
 pub fn compare(p: Places, x: Weight, y: Weight) -> Comparison
     ensures { λ r. ⌜ r ≡ compared (placesOf p) (weightOf x) (weightOf y) ⌝ }
@@ -63,10 +75,7 @@ pub fn compare(p: Places, x: Weight, y: Weight) -> Comparison
         fourth: d,
     } = x
     else {
-        if is_route(y) {
-            return Comparison::Worse;
-        }
-        return Comparison::Equal;
+        return none_against(p, y);
     };
     let Weight::Route {
         first: e,

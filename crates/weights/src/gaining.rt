@@ -4,7 +4,8 @@ use super::Weight;
 use super::comparing;
 use super::joining;
 ghost use mathlib.Core.Path.{_≡_};
-ghost use Rattle.weights.specs.Languages.{placesOf, weightOf, AtMost};
+ghost use Rattle.weights.specs.Languages.{placesOf};
+ghost use Rattle.weights.specs.Values.{weightOf, AtMost};
 ghost use Rattle.weights.specs.Gains.{loses};
 
 // The first value of x joined y is worse than that of w: w stays, and the join need not be made.

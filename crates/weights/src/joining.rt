@@ -5,7 +5,8 @@ use super::Weight;
 ghost use mathlib.Core.Path.{_≡_};
 ghost use Prim.Native.Nat.{_≤_};
 ghost use Rattle.weights.specs.Weights.{joinValue, join};
-ghost use Rattle.weights.specs.Languages.{placesOf, weightOf, AtMost};
+ghost use Rattle.weights.specs.Languages.{placesOf};
+ghost use Rattle.weights.specs.Values.{weightOf, AtMost};
 
 // Two values joined; they are small enough that a sum does not wrap.
 pub fn join_value(c: Component, x: u32, y: u32) -> u32

@@ -10,7 +10,8 @@ ghost use Prim.Native.Nat.{_+_, _≤_};
 ghost use lib.ListN.{length, take, drop};
 ghost use lib.Seq.{sets};
 ghost use Rattle.weights.specs.Sizes.{places, weightWords, ones};
-ghost use Rattle.weights.specs.Languages.{placesOf, weightOf};
+ghost use Rattle.weights.specs.Languages.{placesOf};
+ghost use Rattle.weights.specs.Values.{weightOf};
 ghost use Rattle.weights.specs.Words.{words, allAre, inRange, fits, reading, readOf, decoded};
 
 pub fn in_range(c: Component, cap: u32, v: u32) -> bool

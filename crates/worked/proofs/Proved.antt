@@ -1,12 +1,11 @@
 -- P1 to P9 hold, together.
 use Prim.Native.Nat.{ℕ, zero, suc, _<_}
-use mathlib.Core.Path.{_≡_, refl, ap, subst}
+use mathlib.Core.Path.{_≡_, refl, subst}
 use mathlib.Core.Bool.{true}
-use mathlib.Core.List.{List, [], _∷_, map}
+use mathlib.Core.List.{List, [], _∷_}
 use native.Mathlib.Omega.{arith}
 use lib.Dec.{lit≤}
 use Rattle.refusals.specs.declared.Refusal.the-variants.{NoSuch}
-use Rattle.refusals.specs.declared.Check.{Check}
 use Rattle.refusals.specs.Told.{told, done}
 use Rattle.algebra.specs.Network.{Network}
 use Rattle.algebra.specs.Order.{pick, bestOf}
@@ -16,9 +15,8 @@ use Rattle.algebra.specs.Step.{fresh, routed, reached, sweeps}
 use Rattle.algebra.specs.Modes.{forwarded}
 use Rattle.algebra.proofs.Bests.{best-is}
 use Rattle.weights.specs.declared.Component.{Component}
-use Rattle.weights.specs.declared.Component.the-variants.{Dist, Width}
-use Rattle.weights.specs.Weights.{Weight, none, route, language}
-use Rattle.weights.specs.Languages.{componentsOf}
+use Rattle.weights.specs.declared.Component.the-variants.{Width}
+use Rattle.weights.specs.Weights.{none, route, language}
 use Rattle.weights.specs.Words.{words}
 use Rattle.weights.proofs.Languages.{lawful}
 use Rattle.weights.proofs.Worked as weights
@@ -27,17 +25,18 @@ use Rattle.matrices.specs.Steps.{Matrix, every, solves}
 use Rattle.tables.specs.declared.Mode.the-variants.{Hot}
 use Rattle.tables.specs.Entries.{mapped, modeOf}
 use Rattle.tables.specs.Tables.{tableIn}
-use Rattle.routes.specs.Calls.{matrixOf, stepOf, doneOf, stepsRowBy}
 use Rattle.fields.specs.declared.HeadRead.the-variants.{Sound}
 use Rattle.fields.specs.Bytes.{twoAt}
 use Rattle.fields.specs.Nested.{added, componentRead, languageFrom}
 use Rattle.fields.specs.Header.{fieldCheck, fieldsCheck, headRead}
-use Rattle.records.specs.Records.{recordLength, endsCheck, valuesCheck, recordCheck, recordsCheck, listCheck, listEnd, bodyCheck}
+use Rattle.records.specs.Records.{recordLength, endsCheck, valuesCheck, recordCheck, recordsCheck, recordListCheck, listEnd, bodyCheck}
 use Rattle.files.specs.File.{fileRead}
-use Rattle.files.specs.Contents.{outsideAt, listedWords, tableWords}
-use Rattle.histories.specs.History.{Begun, afterCalls, held, HistoryDemand3}
-use Rattle.histories.proofs.Histories.{history-demand-3}
-use Rattle.worked.specs.Together.{printedFile, arcsRead, mappingRead, printedHead, distance, written, Same, printedMatrix, ten, depotArcs, depotRoutes, sixteenLanguage, sixteenArcs, oneStep, ProvedTogether}
+use Rattle.files.specs.Contents.{outsideAt, listedWords, listedTable}
+use Rattle.files.specs.PrintedFile.{printedFile, printedHead}
+use Rattle.histories.specs.History.{HistoryBegun, afterCalls}
+use Rattle.histories.specs.Examples.{written, depotArcs, depotRoutes}
+use Rattle.histories.proofs.Worked.{P9}
+use Rattle.worked.specs.Together.{arcsRead, mappingRead, distance, Same, printedMatrix, sixteenLanguage, sixteenArcs, oneStep, ProvedTogether}
 
 -- ---- matrices of three rows and columns
 
@@ -58,28 +57,28 @@ abbrev arcs : Matrix
 arcs = arcsRead (printedFile 3) 9 (printedHead 3)
 
 arcs-valid : ValidMatrix (language distance) 3 arcs
-unfolding tableWords blocks listedWords outsideAt words twoAt recordLength cell
+unfolding listedTable blocks listedWords outsideAt words twoAt recordLength cell
 arcs-valid = nine (λ i j. (language distance) .Valid (arcs i j)) tt (tt, tt) (tt, tt) tt tt (tt, tt) tt tt tt
 
 printed : Network
 printed = record { 𝓐 = language distance; 𝓛 = lawful distance (tt, tt) refl refl; n = 3; A = arcs; arcs-valid = arcs-valid }
 
 reads : (fileRead (printedFile 3) ≡ Sound 9 (printedHead 3)) × (fileRead (printedFile 2) ≡ Sound 9 (printedHead 2))
-unfolding fileRead headRead fieldsCheck fieldCheck languageFrom componentRead added twoAt bodyCheck listCheck listEnd recordsCheck recordCheck recordLength endsCheck valuesCheck
+unfolding fileRead headRead fieldsCheck fieldCheck languageFrom componentRead added twoAt bodyCheck recordListCheck listEnd recordsCheck recordCheck recordLength endsCheck valuesCheck
 reads = (refl, refl)
 
 swept : Same 3 (reached (language distance) 3 arcs (sweeps 3 2)) printedMatrix
-unfolding tableWords blocks listedWords outsideAt words twoAt recordLength cell routed bestOf pick
+unfolding listedTable blocks listedWords outsideAt words twoAt recordLength cell routed bestOf pick
 swept = nine (λ i j. reached (language distance) 3 arcs (sweeps 3 2) i j ≡ printedMatrix i j) refl refl refl refl refl refl refl refl refl
 
 computed : Same 3 (best (language distance) 3 arcs) printedMatrix
-unfolding tableWords blocks listedWords outsideAt words twoAt recordLength cell best bestAmong pick
+unfolding listedTable blocks listedWords outsideAt words twoAt recordLength cell best bestAmong pick
 computed = nine (λ i j. best (language distance) 3 arcs i j ≡ printedMatrix i j) refl refl refl refl refl refl refl refl refl
 
 -- ---- P6
 
 hot : forwarded (language distance) (modeOf Hot distance) 3 printedMatrix (mappingRead (printedFile 2) 9 (printedHead 2)) 0 0 ≡ mapped (2 ∷ []) 7
-unfolding tableWords blocks listedWords outsideAt words twoAt recordLength listEnd tableIn forwarded bestOf pick
+unfolding listedTable blocks listedWords outsideAt words twoAt recordLength listEnd tableIn forwarded bestOf pick
 hot = refl
 
 -- ---- P7
@@ -120,17 +119,13 @@ no-way = refl
 
 -- ---- P9
 
-begun : Begun sixteenLanguage 16 sixteenArcs sixteenArcs
+begun : HistoryBegun sixteenLanguage 16 sixteenArcs sixteenArcs
 unfolding firstMalformed
 begun = record { fresh-done = refl; arcs-long = refl; arcs-formed = refl; limits = (tt, tt) }
 
 steps : (oneStep 15 ≡ record { told = done; done = 1 }) × (oneStep 16 ≡ record { told = told (NoSuch 0 0); done = 0 })
 unfolding afterCalls
-steps =
-    let h = history-demand-3 sixteenLanguage 16 sixteenArcs sixteenArcs begun [] in (
-      h .whole (15 ∷ []) (h .refuses (15 ∷ [])),
-      ap (λ (c : Check). stepsRowBy c (doneOf (componentsOf sixteenLanguage) 16 (matrixOf sixteenLanguage 16 sixteenArcs) (matrixOf sixteenLanguage 16 (held sixteenLanguage 16 sixteenArcs sixteenArcs [])) (map stepOf (16 ∷ []))) 1) (h .refuses (16 ∷ [])),
-    )
+steps = P9 sixteenLanguage sixteenArcs sixteenArcs begun
 
 -- ---- together
 

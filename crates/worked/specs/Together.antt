@@ -1,66 +1,54 @@
 -- 01's "Proved together": P1 to P9, about the definitions alone.
 -- To be believed: all of it, beside 01's own lines. That it holds is the theorem `proved-together` (proofs/Proved).
-use Prim.Native.Nat.{ℕ, zero, suc, _+_, _*_, _<_}
+use Prim.Native.Nat.{ℕ, _+_, _*_, _<_}
 use mathlib.Core.Path.{_≡_}
 use mathlib.Core.Bool.{true}
 use mathlib.Core.List.{List, [], _∷_}
-use lib.ListN.{length, getD, replicate}
+use lib.ListN.{length, replicate}
 use Rattle.refusals.specs.declared.Refusal.the-variants.{NoSuch}
 use Rattle.refusals.specs.Told.{told, done}
-use Rattle.algebra.specs.Best.{Best, best}
+use Rattle.algebra.specs.Best.{Best}
 use Rattle.algebra.specs.Step.{fresh, reached, sweeps}
 use Rattle.algebra.specs.Modes.{forwarded}
 use Rattle.weights.specs.declared.Component.{Component}
 use Rattle.weights.specs.declared.Component.the-variants.{Dist, Width, Gain}
 use Rattle.weights.specs.declared.Language.{Language}
 use Rattle.weights.specs.Sizes.{weightWords, ones}
-use Rattle.weights.specs.Weights.{Weight, none, route, language}
+use Rattle.weights.specs.Weights.{none, route, language}
 use Rattle.weights.specs.Laws.{LawD, LawU, LawC, BreaksD, BreaksU}
 use Rattle.weights.specs.Languages.{componentsOf}
 use Rattle.matrices.specs.Steps.{Matrix, solves}
-use Rattle.tables.specs.declared.Mode.{Mode}
 use Rattle.tables.specs.declared.Mode.the-variants.{Hot}
 use Rattle.tables.specs.declared.Chosen.the-variants.{Fits}
 use Rattle.tables.specs.Entries.{Entry, mapped, modeOf, modeFor}
 use Rattle.tables.specs.Tables.{tableIn}
 use Rattle.routes.specs.Calls.{matrixOf, freshLeft, stepsRow, StepsRow}
+use Rattle.histories.specs.Examples.{written, depotArcs, depotRoutes}
 use Rattle.fields.specs.declared.Head.{Head}
-use Rattle.fields.specs.declared.HeadRead.{HeadRead}
 use Rattle.fields.specs.declared.HeadRead.the-variants.{Sound}
 use Rattle.records.specs.declared.Listing.the-variants.{Arcs, Attachments}
 use Rattle.fields.specs.Bytes.{twoAt}
 use Rattle.records.specs.Records.{listEnd}
 use Rattle.files.specs.File.{fileRead}
-use Rattle.files.specs.Contents.{tableWords}
+use Rattle.files.specs.Contents.{listedTable}
+use Rattle.files.specs.PrintedFile.{printedFile, printedHead}
 
--- ---- 01's input
+-- ---- what a file lists
 
--- 00000021 01030103 01 0003 00010002 00020009 01020003 0002 010000000007 020000000004, with a mode byte of its own
-abbrev pub printedFile : ℕ → List ℕ
-printedFile mode =
-    0 ∷ 0 ∷ 0 ∷ 33 ∷ 1 ∷ 3 ∷ 1 ∷ mode ∷ 1 ∷ 0 ∷ 3
-    ∷ 0 ∷ 1 ∷ 0 ∷ 2 ∷ 0 ∷ 2 ∷ 0 ∷ 9 ∷ 1 ∷ 2 ∷ 0 ∷ 3
-    ∷ 0 ∷ 2 ∷ 1 ∷ 0 ∷ 0 ∷ 0 ∷ 0 ∷ 7 ∷ 2 ∷ 0 ∷ 0 ∷ 0 ∷ 0 ∷ 4 ∷ []
-
--- the arcs and the mapping that a file lists, where its header ends at next
+-- the arcs that a file lists, where its header ends at next
 abbrev pub arcsRead : List ℕ → ℕ → Head → Matrix
-arcsRead s next h = matrixOf (h .language) (h .n) (tableWords s h Arcs (next + 2) (twoAt s next))
+arcsRead s next h = matrixOf (h .language) (h .n) (listedTable s h Arcs (next + 2) (twoAt s next))
 
+-- the mapping that it lists
 abbrev pub mappingRead : List ℕ → ℕ → Head → ℕ → ℕ → Entry
 mappingRead s next h =
-    tableIn (length (componentsOf (h .language))) (h .m) (tableWords s h Attachments (listEnd s h Arcs next + 2) (twoAt s (listEnd s h Arcs next)))
+    tableIn (length (componentsOf (h .language))) (h .m) (listedTable s h Attachments (listEnd s h Arcs next + 2) (twoAt s (listEnd s h Arcs next)))
 
--- dist alone, three nodes, one destination
-abbrev pub printedHead : ℕ → Head
-printedHead mode = record { n = 3; m = 1; mode = mode; language = record { count = 1; first = Dist; second = Dist; third = Dist; fourth = Dist } }
-
+-- the language of dist alone
 abbrev pub distance : List Component
 distance = Dist ∷ []
 
 -- ---- matrices written out
-
-abbrev pub written : List (List Weight) → Matrix
-written rows i j = getD (getD rows i []) j none
 
 -- two matrices have the same n x n entries
 abbrev pub Same : ℕ → Matrix → Matrix → Type 0
@@ -74,22 +62,13 @@ printedMatrix =
     ∷ (none ∷ route (0 ∷ []) ∷ route (3 ∷ []) ∷ [])
     ∷ (none ∷ none ∷ route (0 ∷ []) ∷ []) ∷ [])
 
-abbrev pub ten : Weight
-ten = route (10 ∷ [])
-
--- arcs 0 to 1 and 1 to 0 of 10
-abbrev pub depotArcs : Matrix
-depotArcs = written ((none ∷ ten ∷ none ∷ []) ∷ (ten ∷ none ∷ none ∷ []) ∷ (none ∷ none ∷ none ∷ []) ∷ [])
-
--- R(0,2) = R(1,2) = 10, no route from 2 to 0 or 1, and 10 elsewhere
-abbrev pub depotRoutes : Matrix
-depotRoutes = written ((ten ∷ ten ∷ ten ∷ []) ∷ (ten ∷ ten ∷ ten ∷ []) ∷ (none ∷ none ∷ ten ∷ []) ∷ [])
-
 -- ---- sixteen nodes without an arc, dist alone
 
+-- dist alone
 abbrev pub sixteenLanguage : Language
 sixteenLanguage = record { count = 1; first = Dist; second = Dist; third = Dist; fourth = Dist }
 
+-- no arcs between sixteen nodes
 abbrev pub sixteenArcs : List ℕ
 sixteenArcs = replicate (16 * (16 * weightWords)) ones
 
@@ -99,6 +78,7 @@ oneStep x = stepsRow sixteenLanguage 16 sixteenArcs (freshLeft sixteenLanguage 1
 
 -- ---- the list
 
+-- 01's list, line by line
 pub record ProvedTogether : Type 0 where
   -- (P1) dist, width 9: laws D, U held, C broken
   pub P1 : LawD (Dist ∷ Width 9 ∷ []) × LawU (Dist ∷ Width 9 ∷ []) × (LawC (Dist ∷ Width 9 ∷ []) → ⊥)

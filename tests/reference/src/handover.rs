@@ -1,16 +1,16 @@
-//! The next hop, and the row lent at a handover: the new matrix's where that matrix holds
-//! every best weight, else the standing one's, with the call that tells why none was lent.
+//! The row lent at a handover: the new matrix's where that matrix holds every best weight,
+//! else the standing one's, with the call that tells why none was lent.
 
 use std::ops::Range;
 
 use crate::laws::check_laws;
-use crate::matrices::{check_routing, matrix_words, Matrix};
+use crate::matrices::{matrix_words, Matrix};
 use crate::paths::best_matrix;
 use crate::refusals::{
-    check_language, check_length, check_nodes, check_weights, refusal_of, Checked, Refusal,
-    BUFFER_A, BUFFER_R, BUFFER_STANDING,
+    check_argument, check_language, check_length, check_nodes, check_weights, refusal_of, Checked,
+    Refusal, BUFFER_A, BUFFER_R, BUFFER_STANDING,
 };
-use crate::weights::{join, Language, ARC_LIMIT, MATRIX_LIMIT, WEIGHT_WORDS};
+use crate::weights::{Language, ARC_LIMIT, MATRIX_LIMIT, WEIGHT_WORDS};
 
 /// Whose row is lent, as a range of words of that matrix.
 #[derive(Clone, Debug, PartialEq, Eq)]
@@ -18,44 +18,6 @@ pub enum Lent {
     Empty,
     Newer(Range<usize>),
     Standing(Range<usize>),
-}
-
-/// 7 on an argument: `place` is 0 for i and 1 for j.
-fn check_argument(n: u32, node: u32, place: u32) -> Checked<usize> {
-    if node < n {
-        Ok(node as usize)
-    } else {
-        Err(Refusal::new(7, 0, place))
-    }
-}
-
-/// The lowest k other than i whose arc gives the route from i to j its weight: whether there
-/// is one, and its number, 0 where there is none.
-pub fn next_hop(
-    language: &Language,
-    n: u32,
-    a: &[u32],
-    r: &[u32],
-    i: u32,
-    j: u32,
-) -> (Refusal, bool, u32) {
-    let hop = check_routing(language, n, a, r).and_then(|(a, r)| {
-        let i = check_argument(n, i, 0)?;
-        let j = check_argument(n, j, 1)?;
-        Ok(find_hop(language, &a, &r, i, j))
-    });
-    match hop {
-        Ok(Some(node)) => (Refusal::DONE, true, node as u32),
-        Ok(None) => (Refusal::DONE, false, 0),
-        Err(refusal) => (refusal, false, 0),
-    }
-}
-
-fn find_hop(language: &Language, a: &Matrix, r: &Matrix, i: usize, j: usize) -> Option<usize> {
-    if i == j || r.at(i, j).is_none() {
-        return None;
-    }
-    (0..a.nodes).find(|&k| k != i && join(language, a.at(i, k), r.at(k, j)) == *r.at(i, j))
 }
 
 /// 3, 5, 4, 9, 10, 6 on A and 7 for i; the entries of neither matrix are looked at.

@@ -7,6 +7,7 @@ pub mod enumeration;
 pub mod forwarding;
 pub mod generator;
 pub mod handover;
+pub mod hops;
 pub mod laws;
 pub mod matrices;
 pub mod paths;
@@ -16,7 +17,8 @@ pub mod refusals;
 pub mod weights;
 
 pub use forwarding::forward;
-pub use handover::{lent_row, next_hop, which_refusal, Lent};
+pub use handover::{lent_row, which_refusal, Lent};
+pub use hops::next_hop;
 pub use laws::{laws, LawReport};
 pub use matrices::{equation, fresh, steps};
 pub use printing::print;

@@ -88,3 +88,12 @@ pub fn check_weights(
     }
     Ok(())
 }
+
+/// 7 on an argument: `place` is 0 for i and 1 for j.
+pub fn check_argument(n: u32, node: u32, place: u32) -> Checked<usize> {
+    if node < n {
+        Ok(node as usize)
+    } else {
+        Err(Refusal::new(7, 0, place))
+    }
+}

@@ -2,8 +2,6 @@ use Prim.Native.Nat.{_-_}
 use borrow.Author.Needs.{needs}
 use Rattle.corpus.proofs.main.Statement.{statement}
 use Rattle.corpus.proofs.main.Tie as tie
-use Rattle.corpus.proofs.print_named.Reads as print-named-reads
-use Rattle.os.proofs.arg_count.Reads as arg-count-reads
 
 abbrev Inv-loop : tie.InvT-loop
 Inv-loop count i₀ i = Unit

@@ -4,10 +4,6 @@ use borrow.Table.Elements.{length-take-le}
 use borrow.Author.Needs.{needs}
 use Rattle.printer.proofs.print_from.Statement.{statement}
 use Rattle.printer.proofs.print_from.Tie as tie
-use Rattle.io.proofs.large_buffer.Reads as large-buffer-reads
-use Rattle.io.proofs.read_full.Reads as read-full-reads
-use Rattle.io.proofs.write_all.Reads as write-all-reads
-use Rattle.printing.proofs.text.print_input.Reads as print-input-reads
 
 large-buffer-requires : tie.Need-large-buffer-requires
 large-buffer-requires c κs = search needs

@@ -4,9 +4,6 @@ use borrow.Table.Elements.{length-take-le}
 use borrow.Author.Needs.{needs}
 use Rattle.cases.proofs.filed.read_on.Statement.{statement}
 use Rattle.cases.proofs.filed.read_on.Tie as tie
-use Rattle.cases.proofs.filed.to_bytes.Reads as to-bytes-reads
-use Rattle.exchange.proofs.frames.send_too_long.Reads as send-too-long-reads
-use Rattle.io.proofs.large_buffer.Reads as large-buffer-reads
 
 large-buffer-requires : tie.Need-large-buffer-requires
 large-buffer-requires c κs = search needs

@@ -4,7 +4,6 @@ use lib.ListN.{length}
 use borrow.Author.Needs.{needs}
 use Rattle.cases.proofs.filed.to_bytes.Statement.{statement}
 use Rattle.cases.proofs.filed.to_bytes.Tie as tie
-use Rattle.exchange.proofs.frames.low_byte.Reads as low-byte-reads
 
 abbrev Inv-loop : tie.InvT-loop
 Inv-loop words bytes₀ i₀ bytes i = length bytes ≡ length bytes₀

@@ -5,9 +5,6 @@ use lib.ListN.{length}
 use borrow.Author.Needs.{needs}
 use Rattle.cases.proofs.printed.send_text.Statement.{statement}
 use Rattle.cases.proofs.printed.send_text.Tie as tie
-use Rattle.cases.proofs.printed.copy_bytes.Reads as copy-bytes-reads
-use Rattle.exchange.proofs.frames.send_too_long.Reads as send-too-long-reads
-use Rattle.io.proofs.large_buffer.Reads as large-buffer-reads
 
 send-too-long-requires : tie.Need-send-too-long-requires
 send-too-long-requires c κs = search needs

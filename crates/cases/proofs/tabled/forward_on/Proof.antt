@@ -4,7 +4,6 @@ use borrow.Table.Elements.{length-take-le}
 use borrow.Author.Needs.{needs}
 use Rattle.cases.proofs.tabled.forward_on.Statement.{statement}
 use Rattle.cases.proofs.tabled.forward_on.Tie as tie
-use Rattle.exchange.proofs.frames.send_too_long.Reads as send-too-long-reads
 
 send-too-long-requires : tie.Need-send-too-long-requires
 send-too-long-requires c κs = search needs

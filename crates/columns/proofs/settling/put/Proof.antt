@@ -1,6 +1,6 @@
 use mathlib.Core.Path.{refl, sym, _∙_}
 use mathlib.Core.Bool.{true}
-use Rattle.weights.specs.Languages.{weightOf}
+use Rattle.weights.specs.Values.{weightOf}
 use Rattle.weights.proofs.Ordering.{clash}
 use Rattle.weights.proofs.Compared.{same-exactly}
 use Rattle.matrices.proofs.Entries.{cell-is, keep-is, write-is}

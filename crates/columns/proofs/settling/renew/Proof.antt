@@ -7,7 +7,8 @@ use Rattle.algebra.specs.Order.{bestOf}
 use Rattle.algebra.specs.Step.{fresh}
 use Rattle.weights.specs.Sizes.{places, weightWords, arcSum}
 use Rattle.weights.specs.Weights.{language}
-use Rattle.weights.specs.Languages.{placesOf, weightOf, AtMost}
+use Rattle.weights.specs.Languages.{placesOf}
+use Rattle.weights.specs.Values.{weightOf, AtMost}
 use Rattle.matrices.specs.Buffers.{entryPlace, rowIn, matrixIn}
 use Rattle.columns.specs.Columns.{via}
 use Rattle.matrices.proofs.Blocks.{place-room}

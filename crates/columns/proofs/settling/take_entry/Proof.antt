@@ -3,7 +3,8 @@ use lib.Dec.{lit≤}
 use Rattle.algebra.specs.Order.{pick}
 use Rattle.weights.specs.Sizes.{arcSum}
 use Rattle.weights.specs.Weights.{Weight, join, betterOf}
-use Rattle.weights.specs.Languages.{placesOf, weightOf, AtMost}
+use Rattle.weights.specs.Languages.{placesOf}
+use Rattle.weights.specs.Values.{weightOf, AtMost}
 use Rattle.weights.proofs.Gains.{loses-stays}
 use Rattle.matrices.proofs.Entries.{cell-is}
 use Rattle.matrices.proofs.Bounds.{most-weaken}

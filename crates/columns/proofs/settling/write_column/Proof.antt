@@ -3,7 +3,7 @@ use mathlib.Core.Path.{_≡_, sym, ap, _∙_}
 use native.Mathlib.Omega.{arith}
 use lib.ListN.{length}
 use Rattle.weights.specs.Sizes.{places, weightWords}
-use Rattle.weights.specs.Languages.{weightOf}
+use Rattle.weights.specs.Values.{weightOf}
 use Rattle.matrices.specs.Buffers.{matrixWords, entryPlace, rowIn, matrixIn}
 use Rattle.matrices.proofs.Blocks.{place-room, square-small}
 use Rattle.matrices.proofs.Entries.{cell-is, write-is, matrix-self, length-matrix}

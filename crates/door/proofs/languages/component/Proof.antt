@@ -1,5 +1,4 @@
 use Rattle.door.proofs.Decoding.{is-dist, is-width, is-class, is-gain, is-unknown}
-use borrow.Author.Needs.{needs}
 use Rattle.door.proofs.languages.component.Statement.{statement}
 use Rattle.door.proofs.languages.component.Tie as tie
 

@@ -1,7 +1,6 @@
 use borrow.Author.Needs.{needs}
 use Rattle.door.proofs.problems.put_place.Statement.{statement}
 use Rattle.door.proofs.problems.put_place.Tie as tie
-use Rattle.door.proofs.storing.put_pair.Reads as put-pair-reads
 
 enum-told : tie.Need-enum-told
 enum-told c = search needs

@@ -2,8 +2,6 @@ use Rattle.door.proofs.Stored.{problem-stored}
 use borrow.Author.Needs.{needs}
 use Rattle.door.proofs.problems.put_problem.Statement.{statement}
 use Rattle.door.proofs.problems.put_problem.Tie as tie
-use Rattle.door.proofs.problems.put_place.Reads as put-place-reads
-use Rattle.door.proofs.storing.put_pair.Reads as put-pair-reads
 
 put-pair-requires : tie.Need-put-pair-requires
 put-pair-requires c κs = search needs

@@ -6,7 +6,6 @@ use Rattle.door.proofs.Stored.{after}
 use borrow.Author.Needs.{needs}
 use Rattle.door.proofs.reports.put_law.Statement.{statement}
 use Rattle.door.proofs.reports.put_law.Tie as tie
-use Rattle.door.proofs.reports.put_words.Reads as put-words-reads
 
 put-words-requires : tie.Need-put-words-requires
 put-words-requires c κs = search needs

@@ -6,7 +6,6 @@ use Rattle.door.proofs.Stored.{after, front}
 use borrow.Author.Needs.{needs}
 use Rattle.door.proofs.reports.put_laws.Statement.{statement}
 use Rattle.door.proofs.reports.put_laws.Tie as tie
-use Rattle.door.proofs.reports.put_law.Reads as put-law-reads
 
 put-law-requires : tie.Need-put-law-requires
 put-law-requires c κs = search needs

@@ -5,7 +5,6 @@ use Rattle.door.proofs.Stored.{after}
 use borrow.Author.Needs.{needs}
 use Rattle.door.proofs.reports.put_words.Statement.{statement}
 use Rattle.door.proofs.reports.put_words.Tie as tie
-use Rattle.door.proofs.storing.put_pair.Reads as put-pair-reads
 
 put-pair-requires : tie.Need-put-pair-requires
 put-pair-requires c κs = search needs

@@ -12,8 +12,8 @@ field-check-requires-2 c κs = search needs
 field-check-requires-3 : tie.Need-field-check-requires-3
 field-check-requires-3 c κs = search needs
 
-mode-check-requires : tie.Need-mode-check-requires
-mode-check-requires c κs = search needs
+mode-field-check-requires : tie.Need-mode-field-check-requires
+mode-field-check-requires c κs = search needs
 
 or-else-requires : tie.Need-or-else-requires
 or-else-requires c κs = search needs
@@ -26,7 +26,7 @@ or-else-requires-3 c κs = search needs
 
 returns : tie.Need-returns
 unfolding fieldsCheck
-returns c = rw (c .or-else3 .ensures, c .before .or-else2 .ensures, c .before .before .or-else .ensures, c .before .before .before .mode-check .ensures, c .before .before .before .before .field-check3 .ensures, c .before .before .before .before .before .field-check2 .ensures, c .before .before .before .before .before .before .field-check .ensures)
+returns c = rw (c .or-else3 .ensures, c .before .or-else2 .ensures, c .before .before .or-else .ensures, c .before .before .before .mode-field-check .ensures, c .before .before .before .before .field-check3 .ensures, c .before .before .before .before .before .field-check2 .ensures, c .before .before .before .before .before .before .field-check .ensures)
 
 pub fields-check-spec : {M : Type 1} → statement M
 fields-check-spec =
@@ -35,7 +35,7 @@ fields-check-spec =
     field-check-requires
     field-check-requires-2
     field-check-requires-3
-    mode-check-requires
+    mode-field-check-requires
     or-else-requires
     or-else-requires-2
     or-else-requires-3

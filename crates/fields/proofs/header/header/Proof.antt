@@ -22,8 +22,11 @@ cast-m c = search needs
 byte-requires-3 : tie.Need-byte-requires-3
 byte-requires-3 c κs = search needs
 
+nothing-requires : tie.Need-nothing-requires
+nothing-requires c κs = search needs
+
 language-requires : tie.Need-language-requires
-language-requires c κs = search needs
+language-requires c κs = rw (c .nothing .ensures) (record { near = omega arith; few = omega arith; fewer = omega arith })
 
 fields-check-requires : tie.Need-fields-check-requires
 fields-check-requires c κs = search needs
@@ -43,7 +46,10 @@ enum-known-read c = search needs
 
 returns-2 : tie.Need-returns-2
 unfolding headRead
-returns-2 c = (rw (sym (c .before .before .before .before .before .fields-check .ensures) ∙ c .before .before .before .enum-told .given .1, sym (c .before .before .before .before .before .before .language .ensures .0) ∙ c .before .read .given .1), tt)
+returns-2 c =
+    let f = c .before .before .before .before .before in
+    let found = rw (f .before .before .nothing .ensures) at (f .before .language .ensures .0) in
+    (rw (sym (f .fields-check .ensures) ∙ c .before .before .before .enum-told .given .1, sym found ∙ c .before .read .given .1), tt)
 
 enum-known-read-2 : tie.Need-enum-known-read-2
 enum-known-read-2 c = search needs
@@ -52,11 +58,12 @@ returns-3 : tie.Need-returns-3
 unfolding headRead
 returns-3 c =
     let f = c .before .before .before .before .before .before in
-    let b = f .before .before in
+    let b = f .before .before .before in
+    let found = rw (f .before .before .nothing .ensures) at (f .before .language .ensures .0) in
     let fine = sym (f .fields-check .ensures) ∙ c .before .before .before .before .enum-told .given .1 in
     let small = fields-small (now (b .before .before .before .before .args .file)) fine in
-    let adv = rw (c .before .before .read2 .given .1) at (f .before .language .ensures .1) in (
-      rw (fine, sym (f .before .language .ensures .0) ∙ c .before .before .read2 .given .1, b .byte3 .ensures .0, b .before .byte2 .ensures .0, b .before .before .byte .ensures .0),
+    let adv = rw (c .before .before .read2 .given .1, f .before .before .nothing .ensures) at (f .before .language .ensures .1) in (
+      rw (fine, sym found ∙ c .before .before .read2 .given .1, b .byte3 .ensures .0, b .before .byte2 .ensures .0, b .before .before .byte .ensures .0),
       (
         record {
           nodes = omega (arith, small .0, b .before .before .byte .ensures .0);
@@ -77,6 +84,7 @@ header-spec =
     byte-requires-2
     cast-m
     byte-requires-3
+    nothing-requires
     language-requires
     fields-check-requires
     enum-known-checked

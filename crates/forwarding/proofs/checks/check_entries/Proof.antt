@@ -1,5 +1,4 @@
-use mathlib.Core.Path.{sym, _∙_}
-use Rattle.routes.proofs.Order.{stops, goes-on, last}
+use Rattle.routes.proofs.Order.{stopped, went-on, ended}
 use borrow.Author.Needs.{needs}
 use Rattle.forwarding.proofs.checks.check_entries.Statement.{statement}
 use Rattle.forwarding.proofs.checks.check_entries.Tie as tie
@@ -26,13 +25,13 @@ first-malformed-entry-requires : tie.Need-first-malformed-entry-requires
 first-malformed-entry-requires c κs = search needs
 
 returns : tie.Need-returns
-returns c = sym (stops _ (sym (c .before .before .before .first-malformed .ensures) ∙ c .before .x .given .1))
+returns c = stopped _ (c .before .before .before .first-malformed .ensures) (c .before .x .given .1)
 
 returns-2 : tie.Need-returns-2
-returns-2 c = sym (goes-on (sym (c .before .before .before .before .before .before .first-malformed .ensures) ∙ c .before .before .before .before .enum-told .given .1) (stops _ (sym (c .before .before .before .first-malformed2 .ensures) ∙ c .before .x2 .given .1)))
+returns-2 c = went-on (c .before .before .before .before .before .before .first-malformed .ensures) (c .before .before .before .before .enum-told .given .1) (stopped _ (c .before .before .before .first-malformed2 .ensures) (c .before .x2 .given .1))
 
 returns-3 : tie.Need-returns-3
-returns-3 c = sym (goes-on (sym (c .before .before .before .before .before .before .first-malformed .ensures) ∙ c .before .before .before .before .enum-told .given .1) (goes-on (sym (c .before .before .before .first-malformed2 .ensures) ∙ c .before .enum-told2 .given .1) (last (c .first-malformed-entry .ensures))))
+returns-3 c = went-on (c .before .before .before .before .before .before .first-malformed .ensures) (c .before .before .before .before .enum-told .given .1) (went-on (c .before .before .before .first-malformed2 .ensures) (c .before .enum-told2 .given .1) (ended (c .first-malformed-entry .ensures)))
 
 pub check-entries-spec : {M : Type 1} → statement M
 check-entries-spec =

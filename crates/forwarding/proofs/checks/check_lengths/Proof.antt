@@ -1,5 +1,4 @@
-use mathlib.Core.Path.{sym, _∙_}
-use Rattle.routes.proofs.Order.{stops, goes-on, last}
+use Rattle.routes.proofs.Order.{stopped, went-on, ended}
 use borrow.Author.Needs.{needs}
 use Rattle.forwarding.proofs.checks.check_lengths.Statement.{statement}
 use Rattle.forwarding.proofs.checks.check_lengths.Tie as tie
@@ -35,16 +34,16 @@ check-table-length-requires-2 : tie.Need-check-table-length-requires-2
 check-table-length-requires-2 c κs = search needs
 
 returns : tie.Need-returns
-returns c = sym (stops _ (sym (c .before .before .before .check-length .ensures) ∙ c .before .x .given .1))
+returns c = stopped _ (c .before .before .before .check-length .ensures) (c .before .x .given .1)
 
 returns-2 : tie.Need-returns-2
-returns-2 c = sym (goes-on (sym (c .before .before .before .before .before .before .check-length .ensures) ∙ c .before .before .before .before .enum-told .given .1) (stops _ (sym (c .before .before .before .check-length2 .ensures) ∙ c .before .x2 .given .1)))
+returns-2 c = went-on (c .before .before .before .before .before .before .check-length .ensures) (c .before .before .before .before .enum-told .given .1) (stopped _ (c .before .before .before .check-length2 .ensures) (c .before .x2 .given .1))
 
 returns-3 : tie.Need-returns-3
-returns-3 c = sym (goes-on (sym (c .before .before .before .before .before .before .before .before .before .check-length .ensures) ∙ c .before .before .before .before .before .before .before .enum-told .given .1) (goes-on (sym (c .before .before .before .before .before .before .check-length2 .ensures) ∙ c .before .before .before .before .enum-told2 .given .1) (stops _ (sym (c .before .before .before .check-table-length .ensures) ∙ c .before .x3 .given .1))))
+returns-3 c = went-on (c .before .before .before .before .before .before .before .before .before .check-length .ensures) (c .before .before .before .before .before .before .before .enum-told .given .1) (went-on (c .before .before .before .before .before .before .check-length2 .ensures) (c .before .before .before .before .enum-told2 .given .1) (stopped _ (c .before .before .before .check-table-length .ensures) (c .before .x3 .given .1)))
 
 returns-4 : tie.Need-returns-4
-returns-4 c = sym (goes-on (sym (c .before .before .before .before .before .before .before .before .before .check-length .ensures) ∙ c .before .before .before .before .before .before .before .enum-told .given .1) (goes-on (sym (c .before .before .before .before .before .before .check-length2 .ensures) ∙ c .before .before .before .before .enum-told2 .given .1) (goes-on (sym (c .before .before .before .check-table-length .ensures) ∙ c .before .enum-told3 .given .1) (last (c .check-table-length2 .ensures)))))
+returns-4 c = went-on (c .before .before .before .before .before .before .before .before .before .check-length .ensures) (c .before .before .before .before .before .before .before .enum-told .given .1) (went-on (c .before .before .before .before .before .before .check-length2 .ensures) (c .before .before .before .before .enum-told2 .given .1) (went-on (c .before .before .before .check-table-length .ensures) (c .before .enum-told3 .given .1) (ended (c .check-table-length2 .ensures))))
 
 pub check-lengths-spec : {M : Type 1} → statement M
 check-lengths-spec =

@@ -3,7 +3,8 @@ use mathlib.Core.Path.{sym, subst, _∙_}
 use native.Mathlib.Omega.{arith}
 use lib.ListN.{length}
 use Rattle.weights.specs.Sizes.{places, weightWords, arcSum, matrixSum}
-use Rattle.weights.specs.Languages.{placesOf, weightOf, AtMost}
+use Rattle.weights.specs.Languages.{placesOf}
+use Rattle.weights.specs.Values.{weightOf, AtMost}
 use Rattle.matrices.specs.Buffers.{entryPlace, matrixIn}
 use Rattle.matrices.proofs.Entries.{cell-is}
 use Rattle.matrices.proofs.Bounds.{formed-most, most-weaken}

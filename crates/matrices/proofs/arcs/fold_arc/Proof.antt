@@ -6,7 +6,8 @@ use lib.ListN.{length}
 use Rattle.weights.specs.declared.Places.{Places}
 use Rattle.weights.specs.declared.Weight as declared
 use Rattle.weights.specs.Sizes.{places, weightWords, matrixSum}
-use Rattle.weights.specs.Languages.{placesOf, weightOf, AtMost}
+use Rattle.weights.specs.Languages.{placesOf}
+use Rattle.weights.specs.Values.{weightOf, AtMost}
 use Rattle.weights.specs.Words.{words}
 use Rattle.matrices.specs.Buffers.{entryPlace, rowIn, matrixIn}
 use Rattle.matrices.specs.Parts.{folded, FirstAlone}

@@ -2,7 +2,7 @@ use mathlib.Core.Path.{refl, sym, _∙_}
 use mathlib.Core.Bool.{false}
 use lib.Dec.{lit≤}
 use Rattle.weights.specs.Sizes.{arcSum, matrixSum}
-use Rattle.weights.specs.Languages.{weightOf}
+use Rattle.weights.specs.Values.{weightOf}
 use Rattle.weights.proofs.Ordering.{clash}
 use Rattle.matrices.proofs.Bounds.{most-weaken}
 use Rattle.matrices.proofs.arcs.is_lost.Statement.{statement}

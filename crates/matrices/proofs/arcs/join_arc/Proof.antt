@@ -1,6 +1,6 @@
 use lib.Dec.{lit≤}
 use Rattle.weights.specs.Sizes.{arcSum, matrixSum}
-use Rattle.weights.specs.Languages.{weightOf}
+use Rattle.weights.specs.Values.{weightOf}
 use Rattle.matrices.proofs.Bounds.{most-weaken}
 use borrow.Author.Needs.{needs}
 use Rattle.matrices.proofs.arcs.join_arc.Statement.{statement}

@@ -1,9 +1,10 @@
-use Prim.Native.Nat.{_+_, _*_, _≤_}
-use mathlib.Core.Path.{_≡_, sym, _∙_, subst}
+use Prim.Native.Nat.{_+_, _≤_}
+use mathlib.Core.Path.{sym, _∙_, subst}
 use native.Mathlib.Omega.{arith}
 use lib.ListN.{length}
 use Rattle.weights.specs.Sizes.{places, weightWords, arcSum, matrixSum}
-use Rattle.weights.specs.Languages.{placesOf, AtMost}
+use Rattle.weights.specs.Languages.{placesOf}
+use Rattle.weights.specs.Values.{AtMost}
 use Rattle.matrices.specs.Buffers.{entryPlace, matrixIn}
 use Rattle.matrices.specs.Parts.{FirstAlone}
 use Rattle.matrices.proofs.Blocks.{place-room}

@@ -5,7 +5,7 @@ use native.Mathlib.Omega.{arith}
 use borrow.Author.Tests.{not-true, not-false}
 use lib.ListN.{length}
 use Rattle.weights.specs.Sizes.{places, weightWords}
-use Rattle.weights.specs.Languages.{same}
+use Rattle.weights.specs.Values.{same}
 use Rattle.matrices.specs.Buffers.{entryPlace, rowIn, matrixIn}
 use Rattle.matrices.specs.Steps.{every}
 use Rattle.matrices.specs.Parts.{sameAt}

@@ -1,8 +1,6 @@
-use Prim.Native.Nat.{_*_, _-_, _≤_}
+use Prim.Native.Nat.{_-_, _≤_}
 use mathlib.Core.Path.{refl}
 use native.Mathlib.Omega.{arith}
-use lib.ListN.{length}
-use Rattle.weights.specs.Sizes.{weightWords}
 use Rattle.matrices.proofs.Rounds.{Taken, taken-none, taken-more, taken-all}
 use borrow.Author.Needs.{needs}
 use Rattle.matrices.proofs.rows.new_row.Statement.{statement}

@@ -5,8 +5,6 @@ use Rattle.texts.specs.Lines.{refusedLine}
 use borrow.Author.Needs.{needs}
 use Rattle.printing.proofs.text.print_input.Statement.{statement}
 use Rattle.printing.proofs.text.print_input.Tie as tie
-use Rattle.printing.proofs.text.print_text.Reads as print-text-reads
-use Rattle.texts.proofs.lines.put_refused_line.Reads as put-refused-line-reads
 
 tell-requires : tie.Need-tell-requires
 tell-requires c κs = search needs

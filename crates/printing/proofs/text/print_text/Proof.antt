@@ -4,8 +4,6 @@ use Rattle.printing.proofs.Whole.{refused-text, done-text, done-in-rang
 use borrow.Author.Needs.{needs}
 use Rattle.printing.proofs.text.print_text.Statement.{statement}
 use Rattle.printing.proofs.text.print_text.Tie as tie
-use Rattle.printing.proofs.text.put_network.Reads as put-network-reads
-use Rattle.texts.proofs.lines.put_refused_line.Reads as put-refused-line-reads
 
 slice-aggregate-read : tie.Need-slice-aggregate-read
 slice-aggregate-read c = search needs

@@ -7,7 +7,6 @@ use Rattle.printing.proofs.Whole.{matrix-small, table-small, zeros}
 use borrow.Author.Needs.{needs}
 use Rattle.printing.proofs.text.put_network.Statement.{statement}
 use Rattle.printing.proofs.text.put_network.Tie as tie
-use Rattle.printing.proofs.text.put_worked.Reads as put-worked-reads
 
 mul-square : tie.Need-mul-square
 mul-square c = search needs

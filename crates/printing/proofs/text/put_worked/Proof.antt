@@ -4,9 +4,6 @@ use Rattle.printing.proofs.Whole.{blank-square, blank-sized, worked-tex
 use borrow.Author.Needs.{needs}
 use Rattle.printing.proofs.text.put_worked.Statement.{statement}
 use Rattle.printing.proofs.text.put_worked.Tie as tie
-use Rattle.printing.proofs.parts.put_text.Reads as put-text-reads
-use Rattle.printing.proofs.work.work_routes.Reads as work-routes-reads
-use Rattle.printing.proofs.work.work_table.Reads as work-table-reads
 
 work-routes-requires : tie.Need-work-routes-requires
 work-routes-requires c κs = search needs

@@ -5,14 +5,14 @@ use borrow.Author.Needs.{needs}
 use Rattle.records.proofs.lists.body_check.Statement.{statement}
 use Rattle.records.proofs.lists.body_check.Tie as tie
 
-list-check-requires : tie.Need-list-check-requires
-list-check-requires c κs = search needs
+record-list-check-requires : tie.Need-record-list-check-requires
+record-list-check-requires c κs = search needs
 
 list-end-requires : tie.Need-list-end-requires
 list-end-requires c κs = search needs
 
-list-check-requires-2 : tie.Need-list-check-requires-2
-list-check-requires-2 c κs = search needs
+record-list-check-requires-2 : tie.Need-record-list-check-requires-2
+record-list-check-requires-2 c κs = search needs
 
 list-end-requires-2 : tie.Need-list-end-requires-2
 list-end-requires-2 c κs = search needs
@@ -34,8 +34,8 @@ returns c =
     rw (
       c .or-else2 .ensures,
       c .before .or-else .ensures,
-      l .before .list-check .ensures,
-      z .before .list-check2 .ensures,
+      l .before .record-list-check .ensures,
+      z .before .record-list-check2 .ensures,
       z .list-end2 .ensures .0,
       l .list-end .ensures .0,
       lt-leb _ _ (rw (z .list-end2 .ensures .0, l .list-end .ensures .0) at (c .before .before .if1 .taken)),
@@ -51,8 +51,8 @@ returns-2 c =
     let l = z .before .before in
     rw (
       c .or-else3 .ensures,
-      l .before .list-check .ensures,
-      z .before .list-check2 .ensures,
+      l .before .record-list-check .ensures,
+      z .before .record-list-check2 .ensures,
       l .list-end .ensures .0,
       le-leb _ _ (rw (z .list-end2 .ensures .0, l .list-end .ensures .0) at (c .before .if1 .left)),
       or-passed,
@@ -62,9 +62,9 @@ pub body-check-spec : {M : Type 1} → statement M
 body-check-spec =
     tie.close
     (tie.spec
-    list-check-requires
+    record-list-check-requires
     list-end-requires
-    list-check-requires-2
+    record-list-check-requires-2
     list-end-requires-2
     cast-if1
     or-else-requires

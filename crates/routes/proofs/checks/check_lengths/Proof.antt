@@ -1,5 +1,4 @@
-use mathlib.Core.Path.{sym, _∙_}
-use Rattle.routes.proofs.Order.{stops, goes-on, last}
+use Rattle.routes.proofs.Order.{stopped, went-on, ended}
 use borrow.Author.Needs.{needs}
 use Rattle.routes.proofs.checks.check_lengths.Statement.{statement}
 use Rattle.routes.proofs.checks.check_lengths.Tie as tie
@@ -17,10 +16,10 @@ check-length-requires-2 : tie.Need-check-length-requires-2
 check-length-requires-2 c κs = search needs
 
 returns : tie.Need-returns
-returns c = sym (stops _ (sym (c .before .before .before .check-length .ensures) ∙ c .before .x .given .1))
+returns c = stopped _ (c .before .before .before .check-length .ensures) (c .before .x .given .1)
 
 returns-2 : tie.Need-returns-2
-returns-2 c = sym (goes-on (sym (c .before .before .before .check-length .ensures) ∙ c .before .enum-told .given .1) (last (c .check-length2 .ensures)))
+returns-2 c = went-on (c .before .before .before .check-length .ensures) (c .before .enum-told .given .1) (ended (c .check-length2 .ensures))
 
 pub check-lengths-spec : {M : Type 1} → statement M
 check-lengths-spec =

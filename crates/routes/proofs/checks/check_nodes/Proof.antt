@@ -1,5 +1,4 @@
 use Rattle.routes.proofs.Order.{nodes-low, nodes-high, nodes-in}
-use borrow.Author.Needs.{needs}
 use Rattle.routes.proofs.checks.check_nodes.Statement.{statement}
 use Rattle.routes.proofs.checks.check_nodes.Tie as tie
 

@@ -1,5 +1,6 @@
 use mathlib.Core.Path.{sym, _∙_}
-use Rattle.weights.specs.Languages.{placesOf, weightOf}
+use Rattle.weights.specs.Languages.{placesOf}
+use Rattle.weights.specs.Values.{weightOf}
 use Rattle.tables.proofs.Choosing.{then-better, then-equal, then-worse}
 use borrow.Author.Needs.{needs}
 use Rattle.tables.proofs.comparing.better_hot.Statement.{statement}

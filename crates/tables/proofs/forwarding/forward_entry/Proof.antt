@@ -2,7 +2,8 @@ use Prim.Native.Nat.{_+_, _*_, _-_, _≤_}
 use mathlib.Core.Path.{_≡_, refl, sym, _∙_, subst}
 use native.Mathlib.Omega.{arith}
 use lib.ListN.{length}
-use Rattle.weights.specs.Languages.{placesOf, AtMost}
+use Rattle.weights.specs.Languages.{placesOf}
+use Rattle.weights.specs.Values.{AtMost}
 use Rattle.weights.specs.Sizes.{places, weightWords}
 use Rattle.matrices.specs.Buffers.{entryPlace, matrixIn}
 use Rattle.matrices.proofs.Entries.{row-room, cell-is}

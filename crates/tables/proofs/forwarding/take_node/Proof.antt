@@ -1,6 +1,7 @@
 use mathlib.Core.Path.{sym, _∙_}
 use Rattle.weights.specs.Sizes.{places}
-use Rattle.weights.specs.Languages.{placesOf, weightOf}
+use Rattle.weights.specs.Languages.{placesOf}
+use Rattle.weights.specs.Values.{weightOf}
 use Rattle.tables.specs.Tables.{tableIn}
 use Rattle.tables.specs.Entries.{entryOf}
 use Rattle.tables.proofs.Summing.{left-out}

@@ -6,7 +6,6 @@ use Rattle.tronglephu.proofs.Answers.{said, hop-refused, hop-small}
 use borrow.Author.Needs.{needs}
 use Rattle.tronglephu.proofs.forwarding_calls.tronglephu_next_hop.Statement.{statement}
 use Rattle.tronglephu.proofs.forwarding_calls.tronglephu_next_hop.Tie as tie
-use Rattle.hops.proofs.next_hop.next_hop.Reads as next-hop-reads
 
 language-requires : tie.Need-language-requires
 language-requires c κs = search needs

@@ -2,7 +2,6 @@ use mathlib.Core.Path.{refl, sym}
 use Rattle.routes.proofs.Order.{stops, goes-on}
 use Rattle.door.specs.Problems.{problemWords}
 use Rattle.tronglephu.proofs.Answers.{no-room, room}
-use borrow.Author.Needs.{needs}
 use Rattle.tronglephu.proofs.language_calls.check_room.Statement.{statement}
 use Rattle.tronglephu.proofs.language_calls.check_room.Tie as tie
 

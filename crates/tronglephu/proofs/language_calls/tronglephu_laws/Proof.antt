@@ -6,8 +6,6 @@ use Rattle.tronglephu.proofs.Answers.{laws-refused, report-short, repor
 use borrow.Author.Needs.{needs}
 use Rattle.tronglephu.proofs.language_calls.tronglephu_laws.Statement.{statement}
 use Rattle.tronglephu.proofs.language_calls.tronglephu_laws.Tie as tie
-use Rattle.door.proofs.reports.held_laws.Reads as held-laws-reads
-use Rattle.door.proofs.reports.put_laws.Reads as put-laws-reads
 
 language-requires : tie.Need-language-requires
 language-requires c κs = search needs

@@ -3,8 +3,6 @@ use Rattle.tronglephu.proofs.Answers.{problem-room, read-short, read-re
 use borrow.Author.Needs.{needs}
 use Rattle.tronglephu.proofs.language_calls.tronglephu_read.Statement.{statement}
 use Rattle.tronglephu.proofs.language_calls.tronglephu_read.Tie as tie
-use Rattle.door.proofs.problems.put_problem.Reads as put-problem-reads
-use Rattle.tronglephu.proofs.language_calls.check_room.Reads as check-room-reads
 
 check-room-requires : tie.Need-check-room-requires
 check-room-requires c κs = search needs

@@ -4,8 +4,6 @@ use lib.ListN.{length}
 use borrow.Author.Needs.{needs}
 use Rattle.watch.proofs.telling.tell_first.Statement.{statement}
 use Rattle.watch.proofs.telling.tell_first.Tie as tie
-use Rattle.watch.proofs.network.no_links.Reads as no-links-reads
-use Rattle.watch.proofs.telling.tell_entry.Reads as tell-entry-reads
 
 abbrev Inv-loop : tie.InvT-loop
 Inv-loop a newer best-matrix i₀ i = length best-matrix ≡ 36

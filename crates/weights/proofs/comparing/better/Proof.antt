@@ -1,6 +1,7 @@
 use mathlib.Core.Path.{sym, _∙_}
 use borrow.Author.Needs.{needs}
-use Rattle.weights.specs.Languages.{placesOf, weightOf}
+use Rattle.weights.specs.Languages.{placesOf}
+use Rattle.weights.specs.Values.{weightOf}
 use Rattle.weights.proofs.Compared.{is-better, is-equal, is-worse}
 use Rattle.weights.proofs.comparing.better.Statement.{statement}
 use Rattle.weights.proofs.comparing.better.Tie as tie

@@ -2,7 +2,7 @@ use mathlib.Core.Path.{ap, _∙_}
 use mathlib.Core.Bool.{not}
 use borrow.Author.Tests.{eq-eqb, ne-eqb}
 use borrow.Author.Needs.{needs}
-use Rattle.weights.specs.Languages.{weightOf}
+use Rattle.weights.specs.Values.{weightOf}
 use Rattle.weights.proofs.Compared.{none-same}
 use Rattle.weights.proofs.comparing.same.Statement.{statement}
 use Rattle.weights.proofs.comparing.same.Tie as tie

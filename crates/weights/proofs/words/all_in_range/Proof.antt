@@ -1,5 +1,5 @@
 use mathlib.Core.Bool.{and-true}
-use mathlib.Core.Path.{sym, _∙_, ap}
+use mathlib.Core.Path.{sym, _∙_}
 use borrow.Author.Needs.{needs}
 use Rattle.weights.proofs.words.all_in_range.Statement.{statement}
 use Rattle.weights.proofs.words.all_in_range.Tie as tie

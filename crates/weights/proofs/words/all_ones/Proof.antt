@@ -1,4 +1,4 @@
-use borrow.Author.Tests.{eq-eqb, ne-eqb, lt-leb, le-leb}
+use borrow.Author.Tests.{eq-eqb, ne-eqb}
 use Rattle.weights.proofs.words.all_ones.Statement.{statement}
 use Rattle.weights.proofs.words.all_ones.Tie as tie
 

@@ -1,4 +1,4 @@
-use borrow.Author.Tests.{eq-eqb, ne-eqb, lt-leb, le-leb}
+use borrow.Author.Tests.{lt-leb, le-leb}
 use borrow.Author.Needs.{needs}
 use Rattle.weights.proofs.words.in_range.Statement.{statement}
 use Rattle.weights.proofs.words.in_range.Tie as tie

@@ -1,4 +1,4 @@
-use mathlib.Core.Path.{sym, _∙_, ap}
+use mathlib.Core.Path.{sym, _∙_}
 use borrow.Author.Needs.{needs}
 use Rattle.weights.proofs.words.read_words.Statement.{statement}
 use Rattle.weights.proofs.words.read_words.Tie as tie

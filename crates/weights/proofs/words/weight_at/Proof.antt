@@ -1,5 +1,5 @@
 use Rattle.weights.proofs.Buffers.{four-words}
-use mathlib.Core.Path.{sym, _∙_, ap, subst, _≡_}
+use mathlib.Core.Path.{sym, _∙_}
 use borrow.Author.Needs.{needs}
 use Rattle.weights.proofs.words.weight_at.Statement.{statement}
 use Rattle.weights.proofs.words.weight_at.Tie as tie

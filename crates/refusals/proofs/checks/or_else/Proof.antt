@@ -1,6 +1,6 @@
 use borrow.Author.Needs.{needs}
-use Rattle.fields.proofs.header.or_else.Statement.{statement}
-use Rattle.fields.proofs.header.or_else.Tie as tie
+use Rattle.refusals.proofs.checks.or_else.Statement.{statement}
+use Rattle.refusals.proofs.checks.or_else.Tie as tie
 
 enum-told : tie.Need-enum-told
 enum-told c = search needs

@@ -1,8 +1,8 @@
 use mathlib.Core.Path.{sym, _∙_}
 use borrow.Author.Tests.{eq-eqb, ne-eqb}
 use borrow.Author.Needs.{needs}
-use Rattle.fields.proofs.header.mode_check.Statement.{statement}
-use Rattle.fields.proofs.header.mode_check.Tie as tie
+use Rattle.fields.proofs.header.mode_field_check.Statement.{statement}
+use Rattle.fields.proofs.header.mode_field_check.Tie as tie
 
 byte-requires : tie.Need-byte-requires
 byte-requires c κs = search needs
@@ -19,7 +19,7 @@ field-check-requires-2 c κs = search needs
 returns-2 : tie.Need-returns-2
 returns-2 c = rw (ne-eqb _ _ (λ e. c .before .if1 .left (c .before .before .byte .ensures .0 ∙ e))) (c .field-check2 .ensures)
 
-pub mode-check-spec : {M : Type 1} → statement M
-mode-check-spec =
+pub mode-field-check-spec : {M : Type 1} → statement M
+mode-field-check-spec =
     tie.close
     (tie.spec byte-requires field-check-requires returns field-check-requires-2 returns-2)
