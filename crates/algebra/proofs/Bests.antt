@@ -31,7 +31,7 @@ module _ (N : Network) where
 
   -- what is best is no worse than any simple path, and than all that is held
   pub best-nw : {i j : ℕ} {w : Weight} → Best 𝓐 n A i j w → (p : List ℕ) → Simple n i j p → w ≼ pathWeight 𝓐 A i p
-  best-nw b p s = record { left = held-valid (b .held); right = simple-valid s; test = b .least p s }
+  best-nw b p s = record { left = held-valid (b .held); right = simple-valid s; test = b .unbeaten p s }
 
   pub best-nw-held : {i j : ℕ} {w v : Weight} → Best 𝓐 n A i j w → OfSimplePath 𝓐 n A i j v → w ≼ v
   best-nw-held b (inl e) = rw e (nw-none 𝓐 𝓛 (held-valid (b .held)))
@@ -75,7 +75,7 @@ module _ (N : Network) where
   -- What is computed is the best.
   pub best-is : (i j : ℕ) → i < n → Best 𝓐 n A i j (best 𝓐 n A i j)
   unfolding best
-  best-is i j h = record { held = from (a .from); least = λ p s. a .each p (simplePaths-complete n i j p s) .test }
+  best-is i j h = record { held = from (a .from); unbeaten = λ p s. a .each p (simplePaths-complete n i j p s) .test }
     where
       a : Among i (simplePaths n n [] i j) (bestAmong 𝓐 A i (simplePaths n n [] i j))
       a = bestAmong-is i (simplePaths n n [] i j) (λ p m. simple-valid (simplePaths-sound n i j p h m))

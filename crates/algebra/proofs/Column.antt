@@ -216,4 +216,4 @@ module _ (N : Network) (j : ℕ) where
 
   -- where all simple paths are reached, the column is best
   pub near-best : (m : ℕ) (R : Matrix 𝓐) → Sane 𝓐 A j n R → n ≤ suc m → Near m R → HoldsBest 𝓐 n A R j
-  near-best m R c g r i h = record { held = supported-held R i (c .paths i h); least = λ p s. r i h p s (omega (arith, simple-short s)) .test }
+  near-best m R c g r i h = record { held = supported-held R i (c .paths i h); unbeaten = λ p s. r i h p s (omega (arith, simple-short s)) .test }

@@ -148,7 +148,7 @@ module _ (N : Network) (𝓜 : Mode (N .𝓐)) (𝓢 : SemiModule (N .𝓐) 𝓜
 
     -- F(i,d) is the best over k and over the paths from i to k of the path's weight applied to M(k,d)
     pub forwarded-best : (i d : ℕ) → i < n → d < m → BestForwarded 𝓐 𝓜 n A M i d (forwarded 𝓐 𝓜 n R M i d)
-    forwarded-best i d h l = record { held = start (forwarded 𝓐 𝓜 n R M i d) (F .from); least = below }
+    forwarded-best i d h l = record { held = start (forwarded 𝓐 𝓜 n R M i d) (F .from); unbeaten = below }
       where
         F : Chosen entries (𝓢 .ordered) n (carried 𝓐 𝓜 R M i d) empty (forwarded 𝓐 𝓜 n R M i d)
         F = forwarded-is 𝓐 𝓜 𝓢 n m R R-valid M M-valid i d h l
@@ -162,7 +162,7 @@ module _ (N : Network) (𝓜 : Mode (N .𝓐)) (𝓢 : SemiModule (N .𝓐) 𝓜
             at (inr (p, s, z)) = inr (k, p, s, f ∙ ap (λ (x : Weight). apply x (M k d)) (sym z))
 
         below : (k : ℕ) (p : List ℕ) → Simple n i k p → entries .better (apply (pathWeight 𝓐 A i p) (M k d)) (forwarded 𝓐 𝓜 n R M i d) ≡ false
-        below k p s = nw-trans entries (𝓢 .ordered) (F .each k o) (nw-weights 𝓐 𝓜 𝓢 record { left = R-valid i k h o; right = simple-valid N s; test = b i k h o .least p s } (M-valid k d o l)) .test
+        below k p s = nw-trans entries (𝓢 .ordered) (F .each k o) (nw-weights 𝓐 𝓜 𝓢 record { left = R-valid i k h o; right = simple-valid N s; test = b i k h o .unbeaten p s } (M-valid k d o l)) .test
           where
             o : k < n
             o = subst (λ (x : ℕ). x < n) (s .ends) (end-below n i p (s .below))

@@ -1,5 +1,6 @@
 -- What a routing language is made of, and when it is lawful.
--- To be believed: `Algebra`. `Lawful` is what the theorems ask; that a language has it is proved where languages are defined.
+-- To be believed: all of it. `Lawful` is what the theorems ask; that a language with D and U has it is `lawful`
+-- (weights/proofs/Languages).
 use mathlib.Core.Path.{_≡_}
 use mathlib.Core.Bool.{Bool, false}
 use Rattle.algebra.specs.Order.{Order, Ordered}

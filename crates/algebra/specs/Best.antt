@@ -20,7 +20,7 @@ module _ (𝓐 : Algebra) where
   -- w is the best weight over the paths from i to j that visit no node twice: no such path is better.
   pub record Best (n : ℕ) (A : Matrix 𝓐) (i j : ℕ) (w : Weight) : Type 0 where
     pub held : OfSimplePath n A i j w
-    pub least : (p : List ℕ) → Simple n i j p → better (pathWeight 𝓐 A i p) w ≡ false
+    pub unbeaten : (p : List ℕ) → Simple n i j p → better (pathWeight 𝓐 A i p) w ≡ false
 
 -- a stands in the list: a test
 abbrev pub isIn : ℕ → List ℕ → Bool

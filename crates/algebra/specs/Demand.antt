@@ -13,6 +13,7 @@ use Rattle.algebra.specs.Step.{Step, settle, Stretches, routed, reached}
 abbrev pub HoldsBest : (𝓐 : Algebra) → ℕ → Matrix 𝓐 → Matrix 𝓐 → ℕ → Type 0
 HoldsBest 𝓐 n A R j = (i : ℕ) → i < n → Best 𝓐 n A i j (R i j)
 
+-- Demand 3 of the matrix that these steps reach from fresh on one unchanged A, and why 11 never comes (`stored`).
 pub record Demand3 (𝓐 : Algebra) (n : ℕ) (A : Matrix 𝓐) (steps : List Step) : Type 0 where
   -- no entry is better than the true best
   pub never-better : (i j : ℕ) → i < n → 𝓐 .better (reached 𝓐 n A steps i j) (best 𝓐 n A i j) ≡ false

@@ -1,5 +1,6 @@
 -- What a mode of forwarding is, the forwarding sum (002, equation 3) and the forwarding equation.
--- To be believed: all but `SemiModule`, which is what the theorems ask of a mode; that a mode has it is proved where modes are defined.
+-- To be believed: all of it. `SemiModule` is what the theorems ask of a mode; that the three modes have it is proved where modes
+-- are defined (tables/proofs/SemiModules).
 use Prim.Native.Nat.{ℕ, _<_}
 use mathlib.Core.Path.{_≡_}
 use mathlib.Core.Bool.{false}
@@ -46,9 +47,9 @@ module _ (𝓐 : Algebra) (𝓜 : Mode 𝓐) where
   -- e is the best, over all k and over the paths from i to k that visit no node twice, of the path's weight applied to M(k,d).
   pub record BestForwarded (n : ℕ) (A : Matrix 𝓐) (M : Table) (i d : ℕ) (e : entries .Thing) : Type 0 where
     pub held : (e ≡ empty) ⊎ ((k : ℕ) × (p : List ℕ) × Simple n i k p × (e ≡ apply (pathWeight 𝓐 A i p) (M k d)))
-    pub least : (k : ℕ) (p : List ℕ) → Simple n i k p → entries .better (apply (pathWeight 𝓐 A i p) (M k d)) e ≡ false
+    pub unbeaten : (k : ℕ) (p : List ℕ) → Simple n i k p → entries .better (apply (pathWeight 𝓐 A i p) (M k d)) e ≡ false
 
-  -- The entries are ordered, empty is worst, and applying a weight keeps join, unit, no route and both orders; all of it on valid things.
+  -- The entries are ordered, empty is worst, and applying a weight keeps join, unit, no route and both orders; all on valid things.
   pub record SemiModule : Type 0 where
     pub ordered : Ordered entries
     pub empty-valid : entries .Valid empty

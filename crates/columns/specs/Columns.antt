@@ -1,5 +1,5 @@
 -- What a settle makes of a column, pass by pass, and the column put in its place.
--- To be believed: `column`, which `settle_column` cites; the rest joins the code to the steps of `algebra`.
+-- They join the code to the steps of `algebra`; nothing here has to be believed.
 use Prim.Native.Nat.{ℕ, zero, suc, _*_, _≤_, _<_}
 use mathlib.Core.Bool.{cond}
 use mathlib.Core.List.{List}

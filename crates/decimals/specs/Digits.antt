@@ -1,5 +1,6 @@
 -- The decimal digits of a number, as bytes (01, "The printed case").
--- To be believed: all of it. That the fuel of `digitsWithin` is enough, that reading gives the number back and that no zero leads are theorems (proofs/Numbers).
+-- To be believed: all of it. That the fuel of `digitsWithin` is enough, that reading gives the number back and that no zero leads
+-- are theorems (proofs/Numbers).
 use Prim.Native.Nat.{ℕ, zero, suc, _+_, _-_, _*_, _/_, _%_}
 use mathlib.Core.Bool.{cond}
 use mathlib.Core.List.{List, [], _∷_, _++_}
@@ -9,6 +10,7 @@ use lib.Dec.{ltb}
 abbrev pub zeroByte : ℕ
 zeroByte = 48
 
+-- the byte of a digit d, 0 to 9
 abbrev pub digit : ℕ → ℕ
 digit d = zeroByte + d
 

@@ -1,5 +1,5 @@
 -- A language in nine numbers: the count, then kind and limit for each of four places.
--- To be believed: `languageOf`. That the numbers of a language mean that language again is a theorem (proofs/Back).
+-- To be believed: all of it. That the numbers of a language mean that language again is `language-back` (proofs/Back).
 use Prim.Native.Nat.{ℕ}
 use mathlib.Core.Bool.{cond}
 use mathlib.Core.List.{List, [], _∷_, _++_}

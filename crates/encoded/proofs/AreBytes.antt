@@ -16,7 +16,7 @@ use Rattle.weights.specs.Words.{inRange}
 use Rattle.records.specs.declared.Listing.{Listing}
 use Rattle.records.specs.declared.Listing.the-variants.{Arcs, Attachments}
 use Rattle.fields.proofs.Passing.{and-both}
-use Rattle.encoded.specs.Encode.{Entry, Problem, SoundValues, SoundOutside, noOutside, SoundEntries, SoundProblem, Nesting, one, product, nested, bytes2, bytes4, componentBytes, languageBytes, valueBytes, outsideBytes, entryBytes, entriesBytes, listBytes, bodyBytes, encode}
+use Rattle.encoded.specs.Encode.{ListEntry, Problem, SoundValues, SoundOutside, noOutside, SoundEntries, SoundProblem, Nesting, one, product, nested, bytes2, bytes4, componentBytes, languageBytes, valueBytes, outsideBytes, entryBytes, entriesBytes, listBytes, bodyBytes, encode}
 use Rattle.encoded.specs.Taken.{AreBytes}
 use Rattle.encoded.proofs.Entries.{length-values, sound-length}
 
@@ -98,7 +98,7 @@ outside-length Attachments mode t = go (ltb mode 2)
     go false = omega arith
 
 module _ (n columns mode : ℕ) (cs : List Component) (list : Listing) (hn : n ≤ 16) (hc : columns ≤ 32) (few : length cs ≤ places) (small : SmallLimits 65535 cs) where
-  entries-bytes : (low : ℕ) (es : List Entry) → SoundEntries n columns mode cs list low es → All (entriesBytes list mode es)
+  entries-bytes : (low : ℕ) (es : List ListEntry) → SoundEntries n columns mode cs list low es → All (entriesBytes list mode es)
   entries-bytes low [] ok = tt
   entries-bytes low (e ∷ es) ok =
       all-both (entryBytes list mode e) (entriesBytes list mode es) (
@@ -110,7 +110,7 @@ module _ (n columns mode : ℕ) (cs : List Component) (list : Listing) (hn : n �
       )
       (entries-bytes (e .row * 256 + e .column + 1) es (ok .1))
 
-  entries-length : (low : ℕ) (es : List Entry) → SoundEntries n columns mode cs list low es → length (entriesBytes list mode es) ≤ length es * 12
+  entries-length : (low : ℕ) (es : List ListEntry) → SoundEntries n columns mode cs list low es → length (entriesBytes list mode es) ≤ length es * 12
   entries-length low [] ok = omega arith
   entries-length low (e ∷ es) ok =
       omega (
@@ -124,13 +124,13 @@ module _ (n columns mode : ℕ) (cs : List Component) (list : Listing) (hn : n �
       )
 
   -- entries that ascend are few
-  entries-few : (low : ℕ) (es : List Entry) → low ≤ 4096 → SoundEntries n columns mode cs list low es → length es + low ≤ 4096
+  entries-few : (low : ℕ) (es : List ListEntry) → low ≤ 4096 → SoundEntries n columns mode cs list low es → length es + low ≤ 4096
   entries-few low [] h ok = omega arith
   entries-few low (e ∷ es) h ok =
       let k : e .row * 256 + e .column + 1 ≤ 4096 = omega (arith, ok .0 .row-in, ok .0 .column-in) in
       omega (arith, ok .0 .after, entries-few (e .row * 256 + e .column + 1) es k (ok .1))
 
-  list-bytes : (es : List Entry) → SoundEntries n columns mode cs list 0 es → All (listBytes list mode es) × (length (listBytes list mode es) ≤ 50000)
+  list-bytes : (es : List ListEntry) → SoundEntries n columns mode cs list 0 es → All (listBytes list mode es) × (length (listBytes list mode es) ≤ 50000)
   unfolding bytes2
   list-bytes es ok =
       let k = entries-few 0 es (omega arith) ok in

@@ -19,14 +19,14 @@ use Rattle.records.specs.declared.Listing.the-variants.{Arcs, Attachments}
 use Rattle.fields.specs.Bytes.{twoAt}
 use Rattle.records.specs.Records.{recordLength, lengthOf, endsAt, endsCheck, valuesCheck, recordCheck, recordsCheck, recordListCheck, listEnd}
 use Rattle.files.specs.Contents.{columns, valuesAt, outsideAt, withOutside, recordWords, rowOfEnds, columnOfEnds, isAt, listedWords}
-use Rattle.encoded.specs.Encode.{Entry, SoundValues, SoundOutside, SoundEntry, SoundEntries, bytes2, valueBytes, outsideBytes, entryBytes, entriesBytes, listBytes, put}
+use Rattle.encoded.specs.Encode.{ListEntry, SoundValues, SoundOutside, SoundEntry, SoundEntries, bytes2, valueBytes, outsideBytes, entryBytes, entriesBytes, listBytes, put}
 use Rattle.encoded.proofs.Here.{here, past, within, two-here}
 
 -- entries that are sound for a head
-abbrev pub SoundFor : Head → Listing → ℕ → Entry → Type 0
+abbrev pub SoundFor : Head → Listing → ℕ → ListEntry → Type 0
 SoundFor h list low e = SoundEntry (h .n) (columns h list) (h .mode) (componentsOf (h .language)) list low e
 
-abbrev pub AllSound : Head → Listing → ℕ → List Entry → Type 0
+abbrev pub AllSound : Head → Listing → ℕ → List ListEntry → Type 0
 AllSound h list low es = SoundEntries (h .n) (columns h list) (h .mode) (componentsOf (h .language)) list low es
 
 -- the language's count is that of its components
@@ -72,7 +72,7 @@ length-outside Attachments h t = go (ltb (h .mode) 2)
     go true = omega arith
     go false = omega arith
 
-pub length-entry : (h : Head) → Counted h → (list : Listing) (low : ℕ) (e : Entry) → SoundFor h list low e → length (entryBytes list (h .mode) e) ≡ lengthOf h list
+pub length-entry : (h : Head) → Counted h → (list : Listing) (low : ℕ) (e : ListEntry) → SoundFor h list low e → length (entryBytes list (h .mode) e) ≡ lengthOf h list
 length-entry h k list low e ok =
     omega (
       arith,
@@ -83,7 +83,7 @@ length-entry h k list low e ok =
       length-outside list h (e .outside),
     )
 
-pub record EntryHere (s : List ℕ) (h : Head) (list : Listing) (at low : ℕ) (e : Entry) : Type 0 where
+pub record EntryHere (s : List ℕ) (h : Head) (list : Listing) (at low : ℕ) (e : ListEntry) : Type 0 where
   pub passes : recordCheck s h list at low ≡ Passed
   pub key : twoAt s at ≡ e .row * 256 + e .column
   pub row-is : rowOfEnds (endsAt s list at) ≡ e .row
@@ -105,7 +105,7 @@ outside-is s h at t l = go (ltb (h .mode) 2)
     go true o e = sym o
     go false o e = two-here s _ t l e .is
 
-words-ok : (s : List ℕ) (h : Head) → Counted h → (list : Listing) (at low : ℕ) (e : Entry) (l : List ℕ) → SoundFor h list low e
+words-ok : (s : List ℕ) (h : Head) → Counted h → (list : Listing) (at low : ℕ) (e : ListEntry) (l : List ℕ) → SoundFor h list low e
     → drop (at + 2) s ≡ valueBytes (e .values) ++ (outsideBytes list (h .mode) (e .outside) ++ l) → recordWords s h list at ≡ withOutside list (words (route (e .values))) (e .outside)
 words-ok s h k Arcs at low e l ok q =
     let n = sound-length (componentsOf (h .language)) (e .values) (ok .sound) ∙ k .count-is in
@@ -117,7 +117,7 @@ words-ok s h k Attachments at low e l ok q =
     let v : valuesAt s (at + 2) (h .language .count) ≡ e .values = ap (valuesAt s (at + 2)) (sym n) ∙ values-are s (e .values) (at + 2) _ q in
     ap (λ (x : List ℕ). words (route x) ++ (outsideAt s h at ∷ [])) v ∙ ap (λ (x : ℕ). words (route (e .values)) ++ (x ∷ [])) o
 
-pub entry-here : (s : List ℕ) (h : Head) → Counted h → (list : Listing) (at low : ℕ) (e : Entry) (l : List ℕ) → at ≤ length s → SoundFor h list low e
+pub entry-here : (s : List ℕ) (h : Head) → Counted h → (list : Listing) (at low : ℕ) (e : ListEntry) (l : List ℕ) → at ≤ length s → SoundFor h list low e
     → drop at s ≡ entryBytes list (h .mode) e ++ l → EntryHere s h list at low e
 unfolding recordCheck twoAt
 entry-here s h c list at low e l into ok q =
@@ -151,7 +151,7 @@ pub record EntriesHere (s : List ℕ) (h : Head) (list : Listing) (at low count 
   pub rest : drop (at + count * lengthOf h list) s ≡ l
   pub into : at + count * lengthOf h list ≤ length s
 
-pub entries-here : (s : List ℕ) (h : Head) → Counted h → (list : Listing) (es : List Entry) (at low : ℕ) (l : List ℕ) → at ≤ length s → AllSound h list low es
+pub entries-here : (s : List ℕ) (h : Head) → Counted h → (list : Listing) (es : List ListEntry) (at low : ℕ) (l : List ℕ) → at ≤ length s → AllSound h list low es
     → drop at s ≡ entriesBytes list (h .mode) es ++ l → EntriesHere s h list at low (length es) l
 unfolding recordsCheck
 entries-here s h c list [] at low l into ok q =
@@ -174,7 +174,7 @@ entries-here s h c list (e ∷ es) at low l into ok q =
     }
 
 -- a list with its count
-pub list-here : (s : List ℕ) (h : Head) → Counted h → (list : Listing) (es : List Entry) (at : ℕ) (l : List ℕ) → AllSound h list 0 es → drop at s ≡ listBytes list (h .mode) es ++ l
+pub list-here : (s : List ℕ) (h : Head) → Counted h → (list : Listing) (es : List ListEntry) (at : ℕ) (l : List ℕ) → AllSound h list 0 es → drop at s ≡ listBytes list (h .mode) es ++ l
     → (recordListCheck s h list at ≡ Passed) × (drop (listEnd s h list at) s ≡ l) × (listEnd s h list at ≤ length s)
 unfolding recordListCheck listEnd
 list-here s h c list es at l ok q =
@@ -191,7 +191,7 @@ unfolding listedWords
 more s h list i j first done = refl
 
 -- the entries so far, and those to come
-pub words-here : (s : List ℕ) (h : Head) → Counted h → (list : Listing) (i j first : ℕ) (es : List Entry) (done low : ℕ) (l : List ℕ)
+pub words-here : (s : List ℕ) (h : Head) → Counted h → (list : Listing) (i j first : ℕ) (es : List ListEntry) (done low : ℕ) (l : List ℕ)
     → first + done * lengthOf h list ≤ length s → AllSound h list low es
     → drop (first + done * lengthOf h list) s ≡ entriesBytes list (h .mode) es ++ l
     → listedWords s h list first (done + length es) i j ≡ put list i j es (listedWords s h list first done i j)

@@ -24,7 +24,7 @@ use Rattle.files.specs.Contents.{columns, valuesAt, outsideAt}
 use Rattle.records.specs.Parts.{InRange}
 use Rattle.fields.proofs.Passing.{both-pass, unless-passes}
 use Rattle.records.proofs.Listed.{record-ends}
-use Rattle.encoded.specs.Encode.{Entry, SoundValues, SoundOutside, noOutside, bytes2, valueBytes, outsideBytes, entryBytes, entriesBytes, listBytes}
+use Rattle.encoded.specs.Encode.{ListEntry, SoundValues, SoundOutside, noOutside, bytes2, valueBytes, outsideBytes, entryBytes, entriesBytes, listBytes}
 use Rattle.encoded.specs.Taken.{AreBytes}
 use Rattle.encoded.proofs.Entries.{SoundFor, AllSound, Counted}
 use Rattle.encoded.proofs.TakenLanguage.{one-more, two-more, two-small}
@@ -52,7 +52,7 @@ abbrev outsideOf : List ℕ → Head → Listing → ℕ → ℕ
 outsideOf s h Arcs at = 0
 outsideOf s h Attachments at = outsideAt s h at
 
-abbrev entryAt : List ℕ → Head → Listing → ℕ → Entry
+abbrev entryAt : List ℕ → Head → Listing → ℕ → ListEntry
 entryAt s h list at = record { row = getD s at 0; column = getD s (at + 1) 0; values = valuesAt s (at + 2) (h .language .count); outside = outsideOf s h list at }
 
 outside-of : (s : List ℕ) (h : Head) (list : Listing) (at : ℕ) → AreBytes s → at + lengthOf h list ≤ length s
@@ -128,7 +128,7 @@ entry-of s h c list at low by e =
 -- ---- a list
 
 pub record EntriesOf (s : List ℕ) (h : Head) (list : Listing) (at low count : ℕ) : Type 0 where
-  pub entries : List Entry
+  pub entries : List ListEntry
   pub counted : length entries ≡ count
   pub bytes : drop at s ≡ entriesBytes list (h .mode) entries ++ drop (at + count * lengthOf h list) s
   pub sound : AllSound h list low entries
@@ -158,7 +158,7 @@ entries-of s h c list (suc count) at low by e =
     }
 
 pub record ListOf (s : List ℕ) (h : Head) (list : Listing) (at : ℕ) : Type 0 where
-  pub entries : List Entry
+  pub entries : List ListEntry
   pub bytes : drop at s ≡ listBytes list (h .mode) entries ++ drop (listEnd s h list at) s
   pub sound : AllSound h list 0 entries
 

@@ -21,7 +21,8 @@ use Rattle.weights.specs.Weights.{none, route, ValidValue, ValidValues, Sound a
 use Rattle.weights.specs.Languages.{componentsOf}
 use Rattle.weights.specs.Words.{words, inRange, good, reading, isGood}
 use Rattle.weights.proofs.Checking.{few, count-in, limits-exact}
-use Rattle.weights.proofs.Readings.{SumsUpTo, NotOnes, reads-words}
+use Rattle.weights.specs.Written.{SumsUpTo, NotOnes}
+use Rattle.weights.proofs.Readings.{reads-words}
 use Rattle.fields.specs.declared.Head.{Head}
 use Rattle.fields.specs.declared.HeadRead.{HeadRead}
 use Rattle.fields.specs.declared.HeadRead.the-variants.{Sound, Refused as Faulty}
@@ -31,7 +32,7 @@ use Rattle.files.specs.declared.ReadAnswer.the-variants.{Done}
 use Rattle.fields.specs.Bytes.{twoAt}
 use Rattle.records.specs.Records.{lengthOf, endsAt, endsCheck, valuesCheck, recordCheck, recordsCheck, recordListCheck, listEnd, bodyCheck}
 use Rattle.files.specs.File.{fileRead}
-use Rattle.files.specs.Contents.{wide, columns, sizeOf, valuesAt, recordWeight, outsideAt, recordWords, isAt, listedWords, listedTable, listOver}
+use Rattle.files.specs.Contents.{wordsEach, columns, sizeOf, valuesAt, recordWeight, outsideAt, recordWords, isAt, listedWords, listedTable, listOver}
 use Rattle.files.specs.Answers.{Row, readSaid, headRow, refusedRow, sized, arcsOver, mappingOver, ReadSays}
 use Rattle.fields.proofs.Passing.{both-pass, and-both}
 use Rattle.files.proofs.Storing.{listed-wide, checked-body}
@@ -171,10 +172,10 @@ done-means s a m a′ m′ n k mode l w = go (ltb (length a) 1024) (ltb (length 
 -- ---- the theorem
 
 table-entry : (s : List ℕ) (h : Head) (list : Listing) (first count i j : ℕ) (z : List ℕ) → i < h .n → j < columns h list
-    → take (wide list) (drop (i * (columns h list * wide list) + j * wide list) (listedTable s h list first count ++ z)) ≡ listedWords s h list first count i j
+    → take (wordsEach list) (drop (i * (columns h list * wordsEach list) + j * wordsEach list) (listedTable s h list first count ++ z)) ≡ listedWords s h list first count i j
 unfolding listedTable
 table-entry s h list first count i j z hi hj =
-    entry-at (wide list) (listedWords s h list first count) (listed-wide s h list first count) (h .n) (columns h list) i j z hi hj
+    entry-at (wordsEach list) (listedWords s h list first count) (listed-wide s h list first count) (h .n) (columns h list) i j z hi hj
 
 -- what a file that passes leaves, for its own head
 head-well : (s a m : List ℕ) → AreBytes s → (next : ℕ) (h : Head) → fileRead s ≡ Sound next h

@@ -28,7 +28,7 @@ use Rattle.files.specs.Contents.{columns, sizeOf, unlisted, listedWords, listed
 use Rattle.files.specs.Answers.{sized, ReadSays}
 use Rattle.matrices.proofs.Blocks.{blocks-cong}
 use Rattle.files.proofs.Answering.{answer-one}
-use Rattle.encoded.specs.Encode.{Entry, Problem, SoundEntries, SoundProblem, Nesting, nested, bytes2, languageBytes, entriesBytes, listBytes, bodyBytes, encode, languageWith, headOf, put, tableOf}
+use Rattle.encoded.specs.Encode.{ListEntry, Problem, SoundEntries, SoundProblem, Nesting, nested, bytes2, languageBytes, entriesBytes, listBytes, bodyBytes, encode, languageWith, headOf, put, encodedTable}
 use Rattle.encoded.specs.Taken.{foundAfter, nextOf, GivenBack}
 use Rattle.encoded.proofs.Here.{here, past, two-here, language-here, found-language, language-has, one-more-component}
 use Rattle.encoded.proofs.Entries.{AllSound, Counted, list-here, words-here}
@@ -42,9 +42,9 @@ unfolding listedWords
 none-listed s h list first i j = refl
 
 -- the table of a list that stands at an offset
-table-here : (s : List ℕ) (h : Head) → Counted h → (list : Listing) (es : List Entry) (at : ℕ) (l : List ℕ) → AllSound h list 0 es → drop at s ≡ listBytes list (h .mode) es ++ l
-    → listedTable s h list (at + 2) (twoAt s at) ≡ tableOf h list es
-unfolding listedTable tableOf
+table-here : (s : List ℕ) (h : Head) → Counted h → (list : Listing) (es : List ListEntry) (at : ℕ) (l : List ℕ) → AllSound h list 0 es → drop at s ≡ listBytes list (h .mode) es ++ l
+    → listedTable s h list (at + 2) (twoAt s at) ≡ encodedTable h list es
+unfolding listedTable encodedTable
 table-here s h c list es at l ok q =
     let b = two-here s at (length es) (entriesBytes list (h .mode) es ++ l) (q ∙ append-assoc (bytes2 (length es)) (entriesBytes list (h .mode) es) l) in
     rw (b .is)
@@ -127,8 +127,8 @@ given-back p ok t nests s e =
 pub read-encode : (p : Problem) → SoundProblem p → (t : Nesting) → nested t ≡ p .language → (a m a′ m′ : List ℕ) (r : ReadAnswer) → 1024 ≤ length a → 2560 ≤ length m
     → ReadSays (encode p t) a m a′ m′ r
     → (r ≡ Done (p .n) (p .m) (p .mode) (languageWith (p .language)))
-    × (a′ ≡ tableOf (headOf p) Arcs (p .arcs) ++ drop (sizeOf (headOf p) Arcs) a)
-    × (m′ ≡ tableOf (headOf p) Attachments (p .attachments) ++ drop (sizeOf (headOf p) Attachments) m)
+    × (a′ ≡ encodedTable (headOf p) Arcs (p .arcs) ++ drop (sizeOf (headOf p) Arcs) a)
+    × (m′ ≡ encodedTable (headOf p) Attachments (p .attachments) ++ drop (sizeOf (headOf p) Attachments) m)
 unfolding sized
 read-encode p ok t nests a m a′ m′ r ha hm w =
     let g = given-back p ok t nests (encode p t) refl in

@@ -1,5 +1,5 @@
--- A problem, and its file under a nesting of its products (01, "File"). That the reader takes exactly these files is proved (proofs/Whole, proofs/Taken).
--- To be believed: all of it.
+-- A problem, and its file under a nesting of its products (01, "File").
+-- To be believed: all of it. That the reader takes exactly these files is proved (proofs/Whole, proofs/Taken).
 use Prim.Native.Nat.{ℕ, zero, suc, _+_, _*_, _/_, _%_, _≤_, _<_}
 use mathlib.Core.Path.{_≡_}
 use mathlib.Core.List.{List, [], _∷_, _++_}
@@ -22,7 +22,7 @@ use Rattle.files.specs.Contents.{columns, grid, withOutside, unlisted}
 -- ---- problems
 
 -- an arc, or an attachment with its outside number t
-pub record Entry : Type 0 where
+pub record ListEntry : Type 0 where
   pub row : ℕ
   pub column : ℕ
   pub values : List ℕ
@@ -34,8 +34,8 @@ pub record Problem : Type 0 where
   pub m : ℕ
   pub mode : ℕ
   pub language : List Component
-  pub arcs : List Entry
-  pub attachments : List Entry
+  pub arcs : List ListEntry
+  pub attachments : List ListEntry
 
 -- a value of each component
 abbrev pub SoundValues : List Component → List ℕ → Type 0
@@ -55,7 +55,7 @@ noOutside Arcs mode = true
 noOutside Attachments mode = ltb mode 2
 
 -- one entry after entries whose ends, as two bytes, are below low
-pub record SoundEntry (n columns mode : ℕ) (cs : List Component) (list : Listing) (low : ℕ) (e : Entry) : Type 0 where
+pub record SoundEntry (n columns mode : ℕ) (cs : List Component) (list : Listing) (low : ℕ) (e : ListEntry) : Type 0 where
   pub row-in : e .row < n
   pub column-in : e .column < columns
   pub after : low ≤ e .row * 256 + e .column
@@ -63,7 +63,7 @@ pub record SoundEntry (n columns mode : ℕ) (cs : List Component) (list : Listi
   pub out : SoundOutside (noOutside list mode) (e .outside)
 
 -- the entries ascend strictly
-abbrev pub SoundEntries : ℕ → ℕ → ℕ → List Component → Listing → ℕ → List Entry → Type 0
+abbrev pub SoundEntries : ℕ → ℕ → ℕ → List Component → Listing → ℕ → List ListEntry → Type 0
 SoundEntries n columns mode cs list low [] = Unit {0}
 SoundEntries n columns mode cs list low (e ∷ es) = SoundEntry n columns mode cs list low e × SoundEntries n columns mode cs list (e .row * 256 + e .column + 1) es
 
@@ -122,16 +122,16 @@ outsideBytes Arcs mode t = []
 outsideBytes Attachments mode t = cond (ltb mode 2) [] (bytes2 t)
 
 -- the two ends, the values, and t
-abbrev pub entryBytes : Listing → ℕ → Entry → List ℕ
+abbrev pub entryBytes : Listing → ℕ → ListEntry → List ℕ
 entryBytes list mode e = e .row ∷ e .column ∷ (valueBytes (e .values) ++ outsideBytes list mode (e .outside))
 
 -- one entry after another
-abbrev pub entriesBytes : Listing → ℕ → List Entry → List ℕ
+abbrev pub entriesBytes : Listing → ℕ → List ListEntry → List ℕ
 entriesBytes list mode [] = []
 entriesBytes list mode (e ∷ es) = entryBytes list mode e ++ entriesBytes list mode es
 
 -- a count of two bytes, and the entries
-abbrev pub listBytes : Listing → ℕ → List Entry → List ℕ
+abbrev pub listBytes : Listing → ℕ → List ListEntry → List ℕ
 listBytes list mode es = bytes2 (length es) ++ entriesBytes list mode es
 
 -- version 1, n, m, mode, the language, arcs, attachments
@@ -160,19 +160,19 @@ abbrev pub headOf : Problem → Head
 headOf p = record { n = p .n; m = p .m; mode = p .mode; language = languageWith (p .language) }
 
 -- the words of an entry: its weight's, and t after them in an attachment
-abbrev pub wordsListed : Listing → Entry → List ℕ
+abbrev pub wordsListed : Listing → ListEntry → List ℕ
 wordsListed list e = withOutside list (words (route (e .values))) (e .outside)
 
 -- the words at (i, j): those of the entry for (i, j), or else what was there
-abbrev pub put : Listing → ℕ → ℕ → List Entry → List ℕ → List ℕ
+abbrev pub put : Listing → ℕ → ℕ → List ListEntry → List ℕ → List ℕ
 put list i j [] ws = ws
 put list i j (e ∷ es) ws = put list i j es (cond (eqb i (e .row) && eqb j (e .column)) (wordsListed list e) ws)
 
 -- the words of a list's table: what isn't listed is no route, or empty
-unfoldable pub tableOf : Head → Listing → List Entry → List ℕ
-tableOf h list es = grid (h .n) (columns h list) (λ i j. put list i j es (unlisted list))
+unfoldable pub encodedTable : Head → Listing → List ListEntry → List ℕ
+encodedTable h list es = grid (h .n) (columns h list) (λ i j. put list i j es (unlisted list))
 
 -- no entry is for (i, j)
-abbrev pub Unlisted : ℕ → ℕ → List Entry → Type 0
+abbrev pub Unlisted : ℕ → ℕ → List ListEntry → Type 0
 Unlisted i j [] = Unit {0}
 Unlisted i j (e ∷ es) = ((eqb i (e .row) && eqb j (e .column)) ≡ false) × Unlisted i j es

@@ -1,5 +1,6 @@
--- What the theorems on reading say of a file that is taken: it is the file of a sound problem, which is given back, its numbers in their ranges.
--- To be believed: all of it. That it holds is proved (proofs/Whole, proofs/Taken, proofs/Sizes, proofs/WellFormed).
+-- What the theorems on reading say of a file that is taken: it is the file of a sound problem, which is given back, its numbers in
+-- their ranges. To be believed: all but `nextOf` and `GivenBack`, on the way to `read-encode`. That it holds is proved
+-- (proofs/Whole, proofs/Taken, proofs/Sizes, proofs/WellFormed).
 use Prim.Native.Nat.{ℕ, _+_, _≤_}
 use mathlib.Core.Path.{_≡_}
 use mathlib.Core.List.{List}
@@ -15,7 +16,7 @@ use Rattle.fields.specs.Nested.{withComponent, withTag}
 use Rattle.records.specs.Records.{listEnd}
 use Rattle.files.specs.File.{fileRead}
 use Rattle.files.specs.Contents.{listedTable, listOver}
-use Rattle.encoded.specs.Encode.{Problem, SoundProblem, Nesting, one, product, nested, languageBytes, encode, headOf, tableOf}
+use Rattle.encoded.specs.Encode.{Problem, SoundProblem, Nesting, one, product, nested, languageBytes, encode, headOf, encodedTable}
 
 -- every element is a byte
 abbrev pub AreBytes : List ℕ → Type 0
@@ -42,9 +43,9 @@ nextOf t = 8 + length (languageBytes t)
 -- the file s is read as the problem p: its head, its arcs and its mapping
 pub record GivenBack (p : Problem) (t : Nesting) (s : List ℕ) : Type 0 where
   pub checked : fileRead s ≡ Sound (nextOf t) (headOf p)
-  pub arcs-are : listedTable s (headOf p) Arcs (nextOf t + 2) (twoAt s (nextOf t)) ≡ tableOf (headOf p) Arcs (p .arcs)
+  pub arcs-are : listedTable s (headOf p) Arcs (nextOf t + 2) (twoAt s (nextOf t)) ≡ encodedTable (headOf p) Arcs (p .arcs)
   pub mapping-is : listedTable s (headOf p) Attachments (listEnd s (headOf p) Arcs (nextOf t) + 2) (twoAt s (listEnd s (headOf p) Arcs (nextOf t)))
-      ≡ tableOf (headOf p) Attachments (p .attachments)
+      ≡ encodedTable (headOf p) Attachments (p .attachments)
 
 -- n 1..16, m to 32, mode 0 exactly when m is 0, one to four components
 pub record InRanges (h : Head) : Type 0 where
@@ -54,7 +55,7 @@ pub record InRanges (h : Head) : Type 0 where
   pub some-mode : (h .m ≡ 0 → ⊥) → (1 ≤ h .mode) × (h .mode ≤ 3)
   pub components : (1 ≤ h .language .count) × (h .language .count ≤ places)
 
--- what done with n, k, mode and l means: the file s passes with these numbers, and its lists stand over what the buffers a and m held
+-- what done with n, k, mode and l means: the file s passes with these numbers, and its lists stand over what a and m held
 pub record DoneMeans (s a m a′ m′ : List ℕ) (n k mode : ℕ) (l : Language) : Type 0 where
   pub next : ℕ
   pub head : Head

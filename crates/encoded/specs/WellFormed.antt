@@ -1,4 +1,4 @@
--- What a read leaves, in the words of the calls that are given it: numbers in range, a language that passes its check, no malformed entry.
+-- What a read leaves, in the words of the calls that are given it: numbers in range, a sound language, no malformed entry.
 -- To be believed: all of it. That every read that is done leaves it is `read-well` (proofs/WellFormed).
 use Prim.Native.Nat.{ℕ, _+_, _*_, _≤_, _<_}
 use mathlib.Core.Path.{_≡_}

@@ -1,4 +1,4 @@
--- Where the buffers of a request lie.
+-- Where the buffers of a request lie. It joins the functions of this crate to one another; nothing here has to be believed.
 use Prim.Native.Nat.{ℕ, _≤_}
 use Rattle.exchange.specs.declared.requests.Parts.{Parts}
 

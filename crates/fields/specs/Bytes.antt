@@ -1,4 +1,4 @@
--- Bytes of a file by their offset (01, "File": big-endian). A byte past the end counts as 0: whether a field is there is a check of its own.
+-- Bytes of a file by their offset (01, "File": big-endian). A byte past the end counts as 0: that a field is there is a check.
 -- To be believed: all of it.
 use Prim.Native.Nat.{ℕ, _+_, _*_}
 use mathlib.Core.List.{List}

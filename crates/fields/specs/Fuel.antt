@@ -1,5 +1,6 @@
 -- The definition of a language in a file once more, with any answer where the fuel ends.
--- To be believed: that it is `languageFrom` (Nested) but for its first line. That no file comes to that line is `end-unmet` (proofs/Fuel).
+-- To be believed: that it is `languageFrom` (Nested) but for its first line. That no file comes to that line is `end-unmet`
+-- (proofs/Fuel).
 use Prim.Native.Nat.{ℕ, zero, suc, _+_}
 use mathlib.Core.List.{List}
 use mathlib.Core.Bool.{cond}

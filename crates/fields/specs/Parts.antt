@@ -1,5 +1,6 @@
--- What the inner functions say on the way to Nested and Header: offsets that fit their type, and how far a reading has come.
--- They join the code to those; nothing of it has to be believed.
+-- What the inner functions say and rely on, on the way to Nested and Header: offsets that fit their type, how far a reading has
+-- come, and how large the numbers of a head are.
+-- They join the code to those; nothing here has to be believed.
 use Prim.Native.Nat.{ℕ, _+_, _*_, _≤_, _<_}
 use mathlib.Core.Path.{_≡_}
 use mathlib.Core.List.{List}
@@ -24,7 +25,7 @@ Reached at = at ≤ 1800000
 
 -- ---- the language
 
--- a language begins: fewer components than tags, and an offset that these bound
+-- a language begins: at most three tags 5, no more components than tags, and an offset that these bound
 pub record LanguageBegins (at : ℕ) (f : Found) : Type 0 where
   pub near : at ≤ 8 + f .tags + f .language .count * 3
   pub few : f .tags ≤ productTags

@@ -2,3 +2,4 @@ pub mod Values
 pub mod Tables
 pub mod Storing
 pub mod Answering
+pub mod Faults

@@ -22,7 +22,7 @@ use Rattle.records.specs.declared.Listing.the-variants.{Arcs, Attachments}
 use Rattle.records.specs.Records.{endsAt, lengthOf, bodyCheck}
 use Rattle.files.specs.File.{countRight, headOnceChecked, withBody, fileRead}
 use Rattle.fields.specs.Header.{headRead}
-use Rattle.files.specs.Contents.{grid, wide, columns, sizeOf, recordWords, recordWeight, outsideAt, withOutside, unlisted, rowOfEnds, columnOfEnds, isAt, listedWords, listedTable}
+use Rattle.files.specs.Contents.{grid, wordsEach, columns, sizeOf, recordWords, recordWeight, outsideAt, withOutside, unlisted, rowOfEnds, columnOfEnds, isAt, listedWords, listedTable}
 use Rattle.records.specs.Parts.{InRange}
 use Rattle.files.specs.Parts.{placeOf}
 use Rattle.files.proofs.Values.{sets-last}
@@ -56,20 +56,20 @@ checked-body s next h e = go (countRight s) (headRead s) e
 pub put-last : (w : Weight) (l : List ℕ) (n t : ℕ) → set (sets l n (words w)) (n + weightWords) t ≡ sets l n (words w ++ (t ∷ []))
 put-last w l n t = ap (λ (z : ℕ). set (sets l n (words w)) (n + z) t) (sym (length-words w)) ∙ sets-last (words w) l n t
 
-pub words-wide : (list : Listing) (ws : List ℕ) (t : ℕ) → length ws ≡ weightWords → length (withOutside list ws t) ≡ wide list
+pub words-wide : (list : Listing) (ws : List ℕ) (t : ℕ) → length ws ≡ weightWords → length (withOutside list ws t) ≡ wordsEach list
 words-wide Arcs ws t e = e
 words-wide Attachments ws t e = length-append ws (t ∷ []) ∙ omega (arith, e)
 
-record-wide : (s : List ℕ) (h : Head) (list : Listing) (at : ℕ) → length (recordWords s h list at) ≡ wide list
+record-wide : (s : List ℕ) (h : Head) (list : Listing) (at : ℕ) → length (recordWords s h list at) ≡ wordsEach list
 record-wide s h list at = words-wide list (words (recordWeight s h at)) (outsideAt s h at) (length-words (recordWeight s h at))
 
-pub unlisted-ones : (list : Listing) → unlisted list ≡ replicate (wide list) ones
+pub unlisted-ones : (list : Listing) → unlisted list ≡ replicate (wordsEach list) ones
 unfolding words
 unlisted-ones Arcs = refl
 unlisted-ones Attachments = refl
 
 place-grid : (s : List ℕ) (h : Head) (list : Listing) (at : ℕ)
-    → placeOf h (endsAt s list at) ≡ rowOfEnds (endsAt s list at) * (columns h list * wide list) + columnOfEnds (endsAt s list at) * wide list
+    → placeOf h (endsAt s list at) ≡ rowOfEnds (endsAt s list at) * (columns h list * wordsEach list) + columnOfEnds (endsAt s list at) * wordsEach list
 place-grid s h Arcs at = refl
 place-grid s h Attachments at = refl
 
@@ -79,25 +79,25 @@ inside s h Arcs at r = r
 inside s h Attachments at r = r
 
 pub room : (s : List ℕ) (h : Head) (list : Listing) (at : ℕ) → InRange h (endsAt s list at)
-    → placeOf h (endsAt s list at) + wide list ≤ sizeOf h list
+    → placeOf h (endsAt s list at) + wordsEach list ≤ sizeOf h list
 unfolding sizeOf
 room s h list at r =
     let i = inside s h list at r in
     omega (
       arith,
       place-grid s h list at,
-      block-room (columns h list * wide list) (rowOfEnds (endsAt s list at)) (h .n) (i .0),
-      block-room (wide list) (columnOfEnds (endsAt s list at)) (columns h list) (i .1),
+      block-room (columns h list * wordsEach list) (rowOfEnds (endsAt s list at)) (h .n) (i .0),
+      block-room (wordsEach list) (columnOfEnds (endsAt s list at)) (columns h list) (i .1),
     )
 
-pub listed-wide : (s : List ℕ) (h : Head) (list : Listing) (first count i j : ℕ) → length (listedWords s h list first count i j) ≡ wide list
+pub listed-wide : (s : List ℕ) (h : Head) (list : Listing) (first count i j : ℕ) → length (listedWords s h list first count i j) ≡ wordsEach list
 unfolding listedWords
-listed-wide s h list first zero i j = ap length (unlisted-ones list) ∙ length-replicate (wide list) ones
+listed-wide s h list first zero i j = ap length (unlisted-ones list) ∙ length-replicate (wordsEach list) ones
 listed-wide s h list first (suc count) i j =
     go (isAt (endsAt s list (first + count * lengthOf h list)) i j) (listed-wide s h list first count i j)
   where
-    go : (b : Bool) → length (listedWords s h list first count i j) ≡ wide list
-        → length (cond b (recordWords s h list (first + count * lengthOf h list)) (listedWords s h list first count i j)) ≡ wide list
+    go : (b : Bool) → length (listedWords s h list first count i j) ≡ wordsEach list
+        → length (cond b (recordWords s h list (first + count * lengthOf h list)) (listedWords s h list first count i j)) ≡ wordsEach list
     go true e = record-wide s h list (first + count * lengthOf h list)
     go false e = e
 
@@ -110,7 +110,7 @@ pub record Stored (s : List ℕ) (h : Head) (list : Listing) (first count : ℕ)
 pub table-none : (s : List ℕ) (h : Head) (list : Listing) (first : ℕ) → replicate (sizeOf h list) ones ≡ listedTable s h list first 0
 unfolding sizeOf listedTable listedWords
 table-none s h list first =
-    sym (grid-same (wide list) ones (h .n) (columns h list))
+    sym (grid-same (wordsEach list) ones (h .n) (columns h list))
     ∙ ap (λ (ws : List ℕ). grid (h .n) (columns h list) (λ _ _. ws)) (sym (unlisted-ones list))
 
 pub table-more : (s : List ℕ) (h : Head) (list : Listing) (first count : ℕ) (rest : List ℕ)
@@ -122,7 +122,7 @@ table-more s h list first count rest r =
     let at : ℕ = first + count * lengthOf h list in
     let i = inside s h list at r in
     ap (λ (z : ℕ). sets (grid (h .n) (columns h list) (listedWords s h list first count) ++ rest) z (recordWords s h list at)) (place-grid s h list at)
-    ∙ grid-put (wide list) (listedWords s h list first count) (listed-wide s h list first count) (h .n) (columns h list)
+    ∙ grid-put (wordsEach list) (listedWords s h list first count) (listed-wide s h list first count) (h .n) (columns h list)
     (rowOfEnds (endsAt s list at)) (columnOfEnds (endsAt s list at)) (recordWords s h list at) rest (record-wide s h list at) (i .0) (i .1)
 
 -- one more record stored

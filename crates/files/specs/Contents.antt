@@ -24,9 +24,9 @@ abbrev pub grid : ℕ → ℕ → (ℕ → ℕ → List ℕ) → List ℕ
 grid n m c = blocks n (λ i. blocks m (c i))
 
 -- the words of an entry
-abbrev pub wide : Listing → ℕ
-wide Arcs = weightWords
-wide Attachments = entryWords
+abbrev pub wordsEach : Listing → ℕ
+wordsEach Arcs = weightWords
+wordsEach Attachments = entryWords
 
 -- the columns of the table: nodes for arcs, destinations for attachments
 abbrev pub columns : Head → Listing → ℕ
@@ -35,7 +35,7 @@ columns h Attachments = h .m
 
 -- the words that a list is written into
 unfoldable pub sizeOf : Head → Listing → ℕ
-sizeOf h list = h .n * (columns h list * wide list)
+sizeOf h list = h .n * (columns h list * wordsEach list)
 
 -- ---- one record
 

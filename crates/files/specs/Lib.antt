@@ -3,3 +3,4 @@ pub mod Contents
 pub mod Answers
 pub mod Parts
 pub mod PrintedFile
+pub mod Faults

@@ -1,5 +1,5 @@
 -- What the inner functions say on the way to Contents: where a record is stored.
--- It joins the code to those; nothing of it has to be believed.
+-- It joins the code to Contents; nothing here has to be believed.
 use Prim.Native.Nat.{ℕ, _+_, _*_}
 use Rattle.weights.specs.Sizes.{weightWords, entryWords}
 use Rattle.fields.specs.declared.Head.{Head}

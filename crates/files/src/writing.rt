@@ -23,7 +23,7 @@ ghost use Rattle.weights.specs.Values.{weightOf};
 ghost use Rattle.weights.specs.Words.{words};
 ghost use Rattle.fields.specs.Bytes.{twoAt};
 ghost use Rattle.records.specs.Records.{endsAt, listEnd, bodyCheck};
-ghost use Rattle.files.specs.Contents.{wide, sizeOf, recordWeight, outsideAt, withOutside, recordWords, listedTable, listOver};
+ghost use Rattle.files.specs.Contents.{wordsEach, sizeOf, recordWeight, outsideAt, withOutside, recordWords, listedTable, listOver};
 ghost use Rattle.fields.specs.Parts.{Near, Reached, SmallHead};
 ghost use Rattle.records.specs.Parts.{InRange, Listed};
 ghost use Rattle.files.specs.Parts.{placeOf};
@@ -72,7 +72,7 @@ fn outside(file: &[u8], h: Head, at: u32) -> u32
 
 // Writes the words of an arc, or of an attachment with its t, from a place on.
 fn put(list: Listing, w: Weight, t: u32, at: usize, r: &mut [u32])
-    requires { ⌜ at + wide list ≤ length (now r) ⌝ }
+    requires { ⌜ at + wordsEach list ≤ length (now r) ⌝ }
     ensures { λ _. ⌜ now (r .exit) ≡ sets (now (r .entry)) at (withOutside list (words (weightOf w)) t) ⌝ }
 {
     match list {

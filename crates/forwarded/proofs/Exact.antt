@@ -27,6 +27,7 @@ use Rattle.weights.specs.Weights.{Sound, language}
 use Rattle.weights.specs.Laws.{LawC, testD, testU, testC}
 use Rattle.weights.specs.Languages.{componentsOf, countCheck, limitCheck}
 use Rattle.weights.proofs.Checking.{few, check-sound, limits-exact}
+use Rattle.weights.proofs.Cases.{refuses-where, leb-exactly, count-case, limit-case}
 use Rattle.weights.proofs.Decided.{C-exact}
 use Rattle.weights.proofs.Ordering.{clash}
 use Rattle.matrices.specs.Buffers.{Square}
@@ -46,7 +47,7 @@ use Rattle.routes.specs.Calls.{matrixOf}
 use Rattle.routes.proofs.Bridge.{entry-valid}
 use Rattle.routes.proofs.Order.{refused-one, goes-on, nodes-passed, length-passed, unless-passes}
 use Rattle.routes.proofs.OneTeller.{Teller, checksOf, ofBuffer, one, earlier, checkAt, onlyTells, given-where}
-use Rattle.routes.proofs.Cases.{then, alone, refuses-where, leb-exactly, eqb-exactly, nodes-case, count-case, limit-case, length-case, law-D-missing, law-U-missing, law-U-after, nodesTeller, countTeller, limitTeller, lengthTeller, lawDTeller, lawUTeller, malformed-tell, matrixTeller}
+use Rattle.routes.proofs.Cases.{then, done-exactly, alone, eqb-exactly, nodes-case, length-case, law-D-missing, law-U-missing, law-U-after, nodesTeller, countTeller, limitTeller, lengthTeller, lawDTeller, lawUTeller, malformed-tell, matrixTeller}
 use Rattle.forwarding.specs.Checks.{mostDestinations, destinationsCheck, chosenCheck, chosenMode, modeCheck, tableLengthCheck, lawCCheck, mappingCheck, solvesCheck}
 use Rattle.forwarding.specs.Calls.{modeMeant, forwardChecks, forwardCheck}
 use Rattle.forwarding.proofs.Order.{destinations-passed, table-length-passed}
@@ -213,7 +214,7 @@ module _ (l : Language) (n m number : ℕ) (a r s f : List ℕ) where
   table-long-case : (which : ℕ) (b : List ℕ) → (tableLengthCheck which n m b ≡ Refused (Length which 0)) ↔ (TableLong n m b → ⊥)
   table-long-case which b = refuses-where (Length which 0) (eqb-exactly (length b) (n * (m * entryWords)))
 
-  -- Each refusal exactly in its case.
+  -- Each refusal exactly in its case, and done exactly where every check passes.
   pub forward-refusals : ForwardRefusals l n m number a r s f (checkTold (forwardCheck l n m number a r s f))
   forward-refusals = record {
     nodes = alone (exactly-at 0 (Size 1 0) refl (λ p. nodes-case n));
@@ -232,4 +233,5 @@ module _ (l : Language) (n m number : ℕ) (a r s f : List ℕ) where
     routes = λ place. exactly-at 13 (Value 2 place) refl (λ p. check-refuses 2 matrixSum cs n r (square 2 r (p .0) (p .1 .1 .1 .1 .1 .1 .0)) (Value 2 place));
     mapping = λ place. exactly-at 14 (Value 3 place) refl (λ p. entries.check-refuses 3 mode arcSum cs n m s (mapping-sized (p .0) (p .1 .0) (p .1 .1 .1 .1 .1 .1 .1 .0)) (Value 3 place));
     equation = equation-refused;
+    passes = done-exactly (forwardChecks l n m number a r s f) answer refl;
   }

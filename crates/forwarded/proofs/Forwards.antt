@@ -46,7 +46,7 @@ use Rattle.tables.proofs.TableBlocks.{table-five}
 use Rattle.routes.specs.Calls.{matrixOf}
 use Rattle.routes.proofs.Bridge.{check-pad, entry-valid, entry-padded}
 use Rattle.routes.proofs.Order.{nodes-passed, unless-passes}
-use Rattle.forwarding.specs.Calls.{tableOf, modeMeant, buffersChecks, argumentsChecks, forwardCheck, sumOf, forwardLeftBy, forwardLeft}
+use Rattle.forwarding.specs.Calls.{tableOf, modeMeant, buffersChecks, argumentsChecks, forwardCheck, forwardingSum, forwardLeftBy, forwardLeft}
 use Rattle.forwarding.proofs.Order.{parts, destinations-passed, BuffersFormed, Ready, buffers-passed}
 use Rattle.forwarding.proofs.Answers.{forward-order}
 use Rattle.forwarded.specs.Table.{left, EveryRouteBest, TableSays}
@@ -91,13 +91,13 @@ module _ (l : Language) (n m number : ℕ) (a r s f : List ℕ) where
     mapping-valid : ValidTable (language cs) (modeOf mode cs) n m (tableOf l m s)
     mapping-valid i d hi hd = mapping-pads i d hi hd .kind
 
-    sum-valid : (i d : ℕ) → i < n → d < m → ValidEntry (ValidT mode) cs (sumOf l mode n m r s i d)
+    sum-valid : (i d : ℕ) → i < n → d < m → ValidEntry (ValidT mode) cs (forwardingSum l mode n m r s i d)
     sum-valid i d hi hd = forwarded-pad places cs (few l) mode n m (matrixOf l n r) (matrixIn places n r) routes-go (tableOf l m s) (tableIn places m s) mapping-pads i d hi hd .kind
 
     -- the words of the sum stand for it
-    sum-reads : (i d : ℕ) → i < n → d < m → tableOf l m (tableWords n m (sumOf l mode n m r s)) i d ≡ sumOf l mode n m r s i d
+    sum-reads : (i d : ℕ) → i < n → d < m → tableOf l m (tableWords n m (forwardingSum l mode n m r s)) i d ≡ forwardingSum l mode n m r s i d
     unfolding tableIn
-    sum-reads i d hi hd = ap (decodedEntry (length cs)) (table-five n m (sumOf l mode n m r s) i d hi hd) ∙ entry-back mode cs (sumOf l mode n m r s i d) (few l) (sum-valid i d hi hd)
+    sum-reads i d hi hd = ap (decodedEntry (length cs)) (table-five n m (forwardingSum l mode n m r s) i d hi hd) ∙ entry-back mode cs (forwardingSum l mode n m r s i d) (few l) (sum-valid i d hi hd)
 
     route-sum : (c i k : ℕ) → i < n → k < n → sumAt cs c (matrixOf l n r i k) ≤ matrixSum
     unfolding cell
@@ -117,7 +117,7 @@ module _ (l : Language) (n m number : ℕ) (a r s f : List ℕ) where
     abbrev sumPlaced : List Component → List ℕ
     sumPlaced ds = tableWords n m (forwarded (language ds) (modeOf mode ds) n (matrixIn places n r) (tableIn places m s))
 
-    sum-formed : SmallLimits 65535 cs → FormedTable mode tableSum cs n m (tableWords n m (sumOf l mode n m r s))
+    sum-formed : SmallLimits 65535 cs → FormedTable mode tableSum cs n m (tableWords n m (forwardingSum l mode n m r s))
     sum-formed h =
         let p = placesFor l in
         let given : GivenTable mode (placesOf p) n m r s = record {
@@ -125,7 +125,7 @@ module _ (l : Language) (n m number : ℕ) (a r s f : List ℕ) where
           routes = subst (λ (ds : List Component). Formed matrixSum ds n r) (sym (placed l)) routes-padded;
           table = subst (λ (ds : List Component). FormedTable mode arcSum ds n m s) (sym (placed l)) (table-formed-pad cs (few l) mode arcSum n m s .0 (w .mapping));
         } in
-        let words : sumPlaced (placesOf p) ≡ tableWords n m (sumOf l mode n m r s)
+        let words : sumPlaced (placesOf p) ≡ tableWords n m (forwardingSum l mode n m r s)
         = ap sumPlaced (placed l) ∙ forward-words cs (few l) mode n m arcSum (matrixOf l n r) (matrixIn places n r) routes-go s (w .mapping) in
         subst (FormedTable mode tableSum cs n m) words
         (table-formed-pad cs (few l) mode tableSum n m (sumPlaced (placesOf p)) .1
@@ -143,11 +143,11 @@ module _ (l : Language) (n m number : ℕ) (a r s f : List ℕ) where
     ready : Ready mode cs n m a r s f
     ready = let h = first-passes (argumentsChecks l n m number []) (both .0) in buffers-passed mode cs n m a r s f (nodes-passed n (h .0) .1) (destinations-passed m (h .1 .0)) (both .1)
 
-    holds : forwardLeft l n m number a r s f ≡ tableWords n m (sumOf l mode n m r s)
+    holds : forwardLeft l n m number a r s f ≡ tableWords n m (forwardingSum l mode n m r s)
     holds = ap (λ (c : Check). forwardLeftBy c l mode n m r s f) e
 
     -- the buffer holds the forwarding sum
-    pub forward-sum : (i d : ℕ) → i < n → d < m → left l n m number a r s f i d ≡ sumOf l mode n m r s i d
+    pub forward-sum : (i d : ℕ) → i < n → d < m → left l n m number a r s f i d ≡ forwardingSum l mode n m r s i d
     forward-sum i d hi hd = ap (λ (ws : List ℕ). tableOf l m ws i d) holds ∙ sum-reads (ready .formed) i d hi hd
 
     solved : Solves (language cs) n (matrixOf l n a) (matrixOf l n r)
@@ -160,7 +160,7 @@ module _ (l : Language) (n m number : ℕ) (a r s f : List ℕ) where
         forward-sum i d hi hd
         ∙ language-forwards mode cs sound (ready .laws .law-D) (ready .laws .law-U) (ready .laws .law-C) n m (matrixOf l n a) (arcs-valid (ready .formed)) (tableOf l m s) (mapping-valid (ready .formed))
         (matrixOf l n r) (routes-valid (ready .formed)) solved i d hi hd
-        ∙ bestOf-same (modeOf mode cs .entries) n (carried (language cs) (modeOf mode cs) (matrixOf l n a) (sumOf l mode n m r s) i d) (carried (language cs) (modeOf mode cs) (matrixOf l n a) (left l n m number a r s f) i d) (tableOf l m s i d)
+        ∙ bestOf-same (modeOf mode cs .entries) n (carried (language cs) (modeOf mode cs) (matrixOf l n a) (forwardingSum l mode n m r s) i d) (carried (language cs) (modeOf mode cs) (matrixOf l n a) (left l n m number a r s f) i d) (tableOf l m s i d)
         (λ k hk. ap (modeOf mode cs .apply (matrixOf l n a i k)) (sym (forward-sum k d hk hd)))
 
     -- every sum stored is at most 1,048,560

@@ -18,7 +18,7 @@ use Rattle.weights.proofs.Sums.{well-sum}
 use Rattle.tables.specs.declared.Mode.{Mode}
 use Rattle.tables.specs.declared.Mode.the-variants.{Plain, Hot, Cold}
 use Rattle.tables.specs.Entries.{Entry, empty, mapped, largestT, ValidT, ValidEntry}
-use Rattle.tables.specs.Tables.{wordsOf, wordOfT, goodEntry, badEntry, isRoute, readingEntry, isGoodEntry, decodedEntry}
+use Rattle.tables.specs.Tables.{wordsOf, wordOfT, goodEntry, badEntry, readsRoute, readingEntry, isGoodEntry, decodedEntry}
 use Rattle.tables.specs.Parts.{weightIn}
 
 -- ---- written, and read back
@@ -65,7 +65,7 @@ pub entry-sum : (mode : Mode) (cap : ℕ) (cs : List Component) (c : ℕ) (ws : 
 entry-sum mode cap cs c ws h = go (allAre ones ws) (allAre ones (take weightWords ws)) refl (fits cap cs (take weightWords ws)) refl (leb (wordOfT ws) (largestT mode))
   where
     go : (x y : Bool) → allAre ones (take weightWords ws) ≡ y → (z : Bool) → fits cap cs (take weightWords ws) ≡ z → (v : Bool)
-        → isGoodEntry (cond x (goodEntry empty) (cond (isRoute (cond y (good none) (cond z (good (route (take (length cs) (take weightWords ws)))) malformed)) && v) (goodEntry (mapped (take (length cs) ws) (wordOfT ws))) badEntry)) ≡ true
+        → isGoodEntry (cond x (goodEntry empty) (cond (readsRoute (cond y (good none) (cond z (good (route (take (length cs) (take weightWords ws)))) malformed)) && v) (goodEntry (mapped (take (length cs) ws) (wordOfT ws))) badEntry)) ≡ true
         → sumAt cs c (weightIn (cond x empty (mapped (take (length cs) ws) (wordOfT ws)))) ≤ cap
     go true y p z q v e = omega arith
     go false true p z q v e = absurd (false≢true e)

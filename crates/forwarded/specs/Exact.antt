@@ -1,4 +1,5 @@
--- The refusals of forward, each with its case: what is wrong, and the checks that come before it in 01's order.
+-- The answer of forward, each refusal with its case: what is wrong, and the checks that come before it in 01's order; and where it is
+-- done.
 -- To be believed: all of it. That the call gives each exactly in its case is `forward-refusals` (proofs/Exact).
 use Prim.Native.Nat.{ℕ, _*_, _≤_}
 use mathlib.Core.Path.{_≡_}
@@ -8,20 +9,20 @@ use lib.ListN.{length}
 use Rattle.refusals.specs.declared.Refusal.the-variants.{Size, BadComponent, BadCount, Value, Length, Law, Equation}
 use Rattle.refusals.specs.declared.Check.{Check}
 use Rattle.refusals.specs.declared.Told.{Told}
-use Rattle.refusals.specs.Told.{told}
+use Rattle.refusals.specs.Told.{told, done}
 use Rattle.refusals.specs.Checks.{Pass}
 use Rattle.algebra.specs.Step.{Solves}
 use Rattle.weights.specs.declared.Language.{Language}
 use Rattle.weights.specs.Sizes.{entryWords, arcSum, matrixSum}
 use Rattle.weights.specs.Weights.{SoundLimit, language}
 use Rattle.weights.specs.Laws.{LawD, LawU, LawC}
-use Rattle.weights.specs.Languages.{componentsOf, countCheck, limitCheck}
+use Rattle.weights.specs.Languages.{componentsOf, countCheck, limitCheck, CountInRange, FirstNot}
 use Rattle.matrices.specs.Buffers.{AtFirst}
 use Rattle.tables.specs.Tables.{AtFirstEntry}
 use Rattle.routes.specs.Checks.{nodesCheck, lengthCheck, lawDCheck, lawUCheck, arcsCheck, routesCheck}
 use Rattle.routes.specs.Calls.{matrixOf}
-use Rattle.routes.specs.Exact.{NodesInRange, CountInRange, MatrixLong, FirstNot}
-use Rattle.forwarding.specs.Checks.{mostDestinations, destinationsCheck, modeCheck, tableLengthCheck, lawCCheck, mappingCheck}
+use Rattle.routes.specs.Exact.{NodesInRange, MatrixLong}
+use Rattle.forwarding.specs.Checks.{mostDestinations, destinationsCheck, modeCheck, tableLengthCheck, lawCCheck, mappingCheck, solvesCheck}
 use Rattle.forwarding.specs.Calls.{modeMeant}
 
 -- ---- words of the cases
@@ -70,7 +71,7 @@ beforeEquation l n m number a r s f = beforeMapping l n m number a r s f ++ mapp
 
 -- ---- the cases
 
--- The call gives this answer: each of its refusals exactly in its case.
+-- The call gives this answer: each of its refusals exactly in its case, and done exactly where every check passes.
 pub record ForwardRefusals (l : Language) (n m number : ℕ) (a r s f : List ℕ) (answer : Told) : Type 0 where
   -- 3: n is not 1..16; m is above 32; the mode is not 1, 2 or 3, or m is 0
   pub nodes : (answer ≡ told (Size 1 0)) ↔ (NodesInRange n → ⊥)
@@ -95,3 +96,5 @@ pub record ForwardRefusals (l : Language) (n m number : ℕ) (a r s f : List ℕ
   pub mapping : (place : ℕ) → (answer ≡ told (Value 3 place)) ↔ (Pass (beforeMapping l n m number a r s f) × AtFirstEntry 3 (modeMeant l m number) arcSum (componentsOf l) n m s (Value 3 place))
   -- 12: R does not satisfy R = (A join R) best fresh
   pub equation : (answer ≡ told (Equation 2 0)) ↔ (Pass (beforeEquation l n m number a r s f) × (Solves (language (componentsOf l)) n (matrixOf l n a) (matrixOf l n r) → ⊥))
+  -- done: every check passes, the last of them 12's
+  pub passes : (answer ≡ done) ↔ Pass (beforeEquation l n m number a r s f ++ solvesCheck (componentsOf l) n a r ∷ [])

@@ -28,8 +28,8 @@ abbrev pub rowsOf : {A : Type 0} → ℕ → ℕ → (ℕ → ℕ → A) → Lis
 rowsOf n m F = listed n (λ i. listed m (F i))
 
 -- a weight of one value
-abbrev pub value : ℕ → Weight
-value x = route (x ∷ [])
+abbrev pub ofValue : ℕ → Weight
+ofValue x = route (x ∷ [])
 
 -- an entry of one value and its t
 abbrev pub valueWithT : ℕ → ℕ → Entry
@@ -48,15 +48,15 @@ unlimited = 65535
 -- figure 6(c)
 abbrev pub bandRoutes : List (List Weight)
 bandRoutes =
-    (value unlimited ∷ value 20 ∷ value 30 ∷ value 20 ∷ [])
-    ∷ (value 20 ∷ value unlimited ∷ value 20 ∷ value 40 ∷ [])
-    ∷ (value 30 ∷ value 20 ∷ value unlimited ∷ value 20 ∷ [])
-    ∷ (value 20 ∷ value 40 ∷ value 20 ∷ value unlimited ∷ [])
+    (ofValue unlimited ∷ ofValue 20 ∷ ofValue 30 ∷ ofValue 20 ∷ [])
+    ∷ (ofValue 20 ∷ ofValue unlimited ∷ ofValue 20 ∷ ofValue 40 ∷ [])
+    ∷ (ofValue 30 ∷ ofValue 20 ∷ ofValue unlimited ∷ ofValue 20 ∷ [])
+    ∷ (ofValue 20 ∷ ofValue 40 ∷ ofValue 20 ∷ ofValue unlimited ∷ [])
     ∷ []
 
 -- arcs both ways between 6 and 7, 6 and 8, 7 and 9, 8 and 9, of which those are the best routes; 002 has its own in a drawing
 abbrev pub bandArcs : Matrix
-bandArcs = written ((none ∷ value 20 ∷ value 30 ∷ none ∷ []) ∷ (value 20 ∷ none ∷ none ∷ value 40 ∷ []) ∷ (value 30 ∷ none ∷ none ∷ value 20 ∷ []) ∷ (none ∷ value 40 ∷ value 20 ∷ none ∷ []) ∷ [])
+bandArcs = written ((none ∷ ofValue 20 ∷ ofValue 30 ∷ none ∷ []) ∷ (ofValue 20 ∷ none ∷ none ∷ ofValue 40 ∷ []) ∷ (ofValue 30 ∷ none ∷ none ∷ ofValue 20 ∷ []) ∷ (none ∷ ofValue 40 ∷ ofValue 20 ∷ none ∷ []) ∷ [])
 
 -- figure 6(b): d1 at 8 with 2, and with 3 at x, y or z, the entries of 6, 7 and 9 for d1; d2 at 8 and 9 with 1
 abbrev pub bandMapping : Entry → Entry → Entry → List (List Entry)
@@ -80,22 +80,22 @@ pair bandwidth metric = 100 * metric - bandwidth
 -- figure 6(g), in which x, between 1 and 3, and y, between 4 and 5, cannot be read
 abbrev pub distanceRoutes : ℕ → ℕ → List (List Weight)
 distanceRoutes x y =
-    (value 0 ∷ value 3 ∷ value x ∷ value 5 ∷ value 5 ∷ [])
-    ∷ (value 3 ∷ value 0 ∷ value 2 ∷ value 2 ∷ value 3 ∷ [])
-    ∷ (value x ∷ value 2 ∷ value 0 ∷ value 4 ∷ value 4 ∷ [])
-    ∷ (value 5 ∷ value 2 ∷ value 4 ∷ value 0 ∷ value y ∷ [])
-    ∷ (value 5 ∷ value 3 ∷ value 4 ∷ value y ∷ value 0 ∷ [])
+    (ofValue 0 ∷ ofValue 3 ∷ ofValue x ∷ ofValue 5 ∷ ofValue 5 ∷ [])
+    ∷ (ofValue 3 ∷ ofValue 0 ∷ ofValue 2 ∷ ofValue 2 ∷ ofValue 3 ∷ [])
+    ∷ (ofValue x ∷ ofValue 2 ∷ ofValue 0 ∷ ofValue 4 ∷ ofValue 4 ∷ [])
+    ∷ (ofValue 5 ∷ ofValue 2 ∷ ofValue 4 ∷ ofValue 0 ∷ ofValue y ∷ [])
+    ∷ (ofValue 5 ∷ ofValue 3 ∷ ofValue 4 ∷ ofValue y ∷ ofValue 0 ∷ [])
     ∷ []
 
 -- arcs both ways between 1 and 2, 1 and 5, 2 and 3, 2 and 4, 2 and 5, 3 and 5, of which those are the best routes with x and y 5
 abbrev pub distanceArcs : Matrix
 distanceArcs =
     written
-    ((none ∷ value 3 ∷ none ∷ none ∷ value 5 ∷ [])
-    ∷ (value 3 ∷ none ∷ value 2 ∷ value 2 ∷ value 3 ∷ [])
-    ∷ (none ∷ value 2 ∷ none ∷ none ∷ value 4 ∷ [])
-    ∷ (none ∷ value 2 ∷ none ∷ none ∷ none ∷ [])
-    ∷ (value 5 ∷ value 3 ∷ value 4 ∷ none ∷ none ∷ [])
+    ((none ∷ ofValue 3 ∷ none ∷ none ∷ ofValue 5 ∷ [])
+    ∷ (ofValue 3 ∷ none ∷ ofValue 2 ∷ ofValue 2 ∷ ofValue 3 ∷ [])
+    ∷ (none ∷ ofValue 2 ∷ none ∷ none ∷ ofValue 4 ∷ [])
+    ∷ (none ∷ ofValue 2 ∷ none ∷ none ∷ none ∷ [])
+    ∷ (ofValue 5 ∷ ofValue 3 ∷ ofValue 4 ∷ none ∷ none ∷ [])
     ∷ [])
 
 -- figure 6(f)
@@ -118,9 +118,10 @@ distanceTable =
     ∷ (valueWithT 0 (pair 20 2) ∷ valueWithT 0 (pair 40 1) ∷ [])
     ∷ []
 
--- the languages of the two
+-- the language of the cold table: bandwidth alone
 abbrev pub bandLanguage : Language
 bandLanguage = record { count = 1; first = Width 65535; second = Dist; third = Dist; fourth = Dist }
 
+-- the language of the hot table: distance alone
 abbrev pub distanceLanguage : Language
 distanceLanguage = record { count = 1; first = Dist; second = Dist; third = Dist; fourth = Dist }

@@ -42,18 +42,20 @@ argumentsChecks l n m number rest = nodesCheck n ∷ destinationsCheck m ∷ mod
 abbrev pub forwardChecks : Language → ℕ → ℕ → ℕ → List ℕ → List ℕ → List ℕ → List ℕ → List Check
 forwardChecks l n m number a r s f = argumentsChecks l n m number (buffersChecks (modeMeant l m number) (componentsOf l) n m a r s f)
 
+-- the refusal that the call answers, or that it is done
 abbrev pub forwardCheck : Language → ℕ → ℕ → ℕ → List ℕ → List ℕ → List ℕ → List ℕ → Check
 forwardCheck l n m number a r s f = firstOf (forwardChecks l n m number a r s f)
 
 -- the forwarding sum, in a mode: F(i,d) is the best over k of R(i,k) applied to M(k,d)
-abbrev pub sumOf : Language → Mode → ℕ → ℕ → List ℕ → List ℕ → ℕ → ℕ → Entry
-sumOf l mode n m r s = forwarded (language (componentsOf l)) (modeOf mode (componentsOf l)) n (matrixOf l n r) (tableOf l m s)
+abbrev pub forwardingSum : Language → Mode → ℕ → ℕ → List ℕ → List ℕ → ℕ → ℕ → Entry
+forwardingSum l mode n m r s = forwarded (language (componentsOf l)) (modeOf mode (componentsOf l)) n (matrixOf l n r) (tableOf l m s)
 
--- what the buffer holds then
+-- the table of the forwarding sum where the checks pass; on refusal f as it was
 abbrev pub forwardLeftBy : Check → Language → Mode → ℕ → ℕ → List ℕ → List ℕ → List ℕ → List ℕ
-forwardLeftBy Passed l mode n m r s f = tableWords n m (sumOf l mode n m r s)
+forwardLeftBy Passed l mode n m r s f = tableWords n m (forwardingSum l mode n m r s)
 forwardLeftBy (Refused x) l mode n m r s f = f
 
+-- what the call leaves in f, by its own checks and the mode that the number means
 abbrev pub forwardLeft : Language → ℕ → ℕ → ℕ → List ℕ → List ℕ → List ℕ → List ℕ → List ℕ
 forwardLeft l n m number a r s f = forwardLeftBy (forwardCheck l n m number a r s f) l (modeMeant l m number) n m r s f
 

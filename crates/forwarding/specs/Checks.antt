@@ -29,11 +29,12 @@ mostDestinations = 32
 abbrev pub destinationsCheck : ℕ → Check
 destinationsCheck m = unless (leb m mostDestinations) (Size 2 0)
 
--- 3: the mode's number fits the language and m; none fits m 0
+-- 3, which 3, where no mode fits
 abbrev pub chosenCheck : Chosen → Check
 chosenCheck (Fits mode) = Passed
 chosenCheck Unfit = Refused (Size 3 0)
 
+-- 3: the number is a mode, 1..3, and m is not 0
 abbrev pub modeCheck : List Component → ℕ → ℕ → Check
 modeCheck cs m number = chosenCheck (modeFor cs m number)
 

@@ -28,7 +28,7 @@ use Rattle.routes.proofs.Bridge.{buffer-goes, embedded, words-go}
 use Rattle.routes.proofs.Order.{nodes-passed, length-passed, node-passed, passing-sound}
 use Rattle.handover.specs.declared.LenderAnswer.the-variants.{Newer, Standing, Refused as LenderRefused}
 use Rattle.handover.specs.Calls.{handoverChecks, handoverCheck, bestWords, isBest, LenderRow, lenderRowBy, lenderRow, lenderSaid, rowPart, lentRowBy, lentRow, rowStart, lentStartBy, lentStart}
-use Rattle.handover.specs.Parts.{Checked}
+use Rattle.handover.specs.Parts.{HandoverChecked}
 
 module _ (l : Language) (n : ℕ) (a standing newer : List ℕ) (i : ℕ) where
   abbrev check : Check
@@ -42,7 +42,7 @@ module _ (l : Language) (n : ℕ) (a standing newer : List ℕ) (i : ℕ) where
   pub lender-refused : (x : Refusal) → check ≡ Refused x → lenderSaid (LenderRefused x) ≡ lenderRow l n a standing newer i
   lender-refused x e = ap (λ (c : Check). lenderRowBy c isNew) (sym e)
 
-  module _ (p : Places) (k : Checked l n a standing newer i p) {b : Bool} (q : b ≡ sameValues newer (matrixWords n (best (language (placesOf p)) n (matrixIn places n a)))) where
+  module _ (p : Places) (k : HandoverChecked l n a standing newer i p) {b : Bool} (q : b ≡ sameValues newer (matrixWords n (best (language (placesOf p)) n (matrixIn places n a)))) where
     -- the best weights have the same words in the places and in the language
     best-same : matrixWords n (best (language (placesOf p)) n (matrixIn places n a)) ≡ bestWords l n a
     best-same =

@@ -16,7 +16,7 @@ use Rattle.matrices.proofs.Malformed.{check-formed}
 use Rattle.routes.specs.Checks.{nodesCheck, lengthCheck, lawDCheck, lawUCheck, arcsCheck, nodeCheck}
 use Rattle.routes.proofs.Order.{stops, goes-on, pair, passed-both, nodes-passed, length-passed, node-passed, laws-same, arcs-same, passing}
 use Rattle.handover.specs.Calls.{handoverCheck}
-use Rattle.handover.specs.Parts.{Checked}
+use Rattle.handover.specs.Parts.{HandoverChecked}
 
 -- three checks are one
 triple : (a b c d : Check) → orElse a (orElse b (orElse c d)) ≡ orElse (firstOf (a ∷ b ∷ c ∷ [])) d
@@ -74,7 +74,7 @@ module _ (l : Language) (n : ℕ) (a standing newer : List ℕ) (i : ℕ) where
           pub by-arcs : {x : Refusal} → firstOf (arcsCheck (placesOf p) n a ∷ nodeCheck 0 n i ∷ []) ≡ Refused x → All ≡ Refused x
           by-arcs e = go-on e
 
-          pub all-pass : SmallLimits 65535 (placesOf p) → firstOf (arcsCheck (placesOf p) n a ∷ nodeCheck 0 n i ∷ []) ≡ Passed → Checked l n a standing newer i p
+          pub all-pass : SmallLimits 65535 (placesOf p) → firstOf (arcsCheck (placesOf p) n a ∷ nodeCheck 0 n i ∷ []) ≡ Passed → HandoverChecked l n a standing newer i p
           all-pass small ef =
               let o = passing l p placed n en el small eu in
               let h = passed-both (arcsCheck (placesOf p) n a) (nodeCheck 0 n i) ef in

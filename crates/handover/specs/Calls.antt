@@ -1,5 +1,6 @@
--- The calls of a handover (01, "Forwarding and the next hop"): the checks in 01's order, which matrix lends, and the row that is lent.
--- To be believed: all of it. That `isBest` holds exactly where every entry is the best, and none malformed, is `test-exactly` (handovers/proofs/Tested).
+-- The calls of a handover (01, "Forwarding and the next hop"): the checks in 01's order, which matrix lends, and the row lent.
+-- To be believed: all of it. That `isBest` holds exactly where every entry is the best, and none malformed, is `test-exactly`
+-- (handovers/proofs/Tested).
 use Prim.Native.Nat.{ℕ, _+_, _*_}
 use mathlib.Core.Bool.{Bool, cond}
 use mathlib.Core.List.{List, [], _∷_}
@@ -29,6 +30,7 @@ handoverChecks l n a standing newer i =
     nodesCheck n ∷ countCheck l ∷ limitCheck l ∷ lengthCheck 1 n a ∷ lengthCheck 2 n newer ∷ lengthCheck 5 n standing ∷ lawDCheck (componentsOf l) ∷ lawUCheck (componentsOf l)
     ∷ arcsCheck (componentsOf l) n a ∷ nodeCheck 0 n i ∷ []
 
+-- the refusal that the second call tells, or that a row is lent
 abbrev pub handoverCheck : Language → ℕ → List ℕ → List ℕ → List ℕ → ℕ → Check
 handoverCheck l n a standing newer i = firstOf (handoverChecks l n a standing newer i)
 
@@ -52,6 +54,7 @@ abbrev pub lenderRowBy : Check → Bool → LenderRow
 lenderRowBy Passed isNew = record { told = done; buffer = cond isNew 2 5 }
 lenderRowBy (Refused x) isNew = record { told = told x; buffer = 0 }
 
+-- the row that the call answers: its first refusal, else buffer 2 where every entry of the new matrix is the best, else 5
 abbrev pub lenderRow : Language → ℕ → List ℕ → List ℕ → List ℕ → ℕ → LenderRow
 lenderRow l n a standing newer i = lenderRowBy (handoverCheck l n a standing newer i) (isBest l n a newer)
 
@@ -72,6 +75,7 @@ abbrev pub lentRowBy : Check → Bool → ℕ → ℕ → List ℕ → List ℕ 
 lentRowBy Passed isNew n i standing newer = cond isNew (rowPart n i newer) (rowPart n i standing)
 lentRowBy (Refused x) isNew n i standing newer = []
 
+-- the words of the part that the call lends, by its own checks and test
 abbrev pub lentRow : Language → ℕ → List ℕ → List ℕ → List ℕ → ℕ → List ℕ
 lentRow l n a standing newer i = lentRowBy (handoverCheck l n a standing newer i) (isBest l n a newer) n i standing newer
 
@@ -86,5 +90,6 @@ abbrev pub lentStartBy : Check → Bool → ℕ → ℕ → ℕ × ℕ → ℕ �
 lentStartBy Passed isNew n i standing newer = cond isNew (rowStart n i newer) (rowStart n i standing)
 lentStartBy (Refused x) isNew n i standing newer = standing
 
+-- where the part that the call lends begins, given where the two matrices begin
 abbrev pub lentStart : Language → ℕ → List ℕ → List ℕ → List ℕ → ℕ → ℕ × ℕ → ℕ × ℕ → ℕ × ℕ
 lentStart l n a standing newer i from-standing from-newer = lentStartBy (handoverCheck l n a standing newer i) (isBest l n a newer) n i from-standing from-newer

@@ -1,4 +1,4 @@
--- What the inner functions say on the way to Calls: when the checks have passed, and the comparison column by column.
+-- What the inner functions say on the way to Calls: what is known once the checks have passed, and the comparison column by column.
 -- They join the code to Calls; nothing here has to be believed.
 use Prim.Native.Nat.{ℕ, _*_, _<_}
 use mathlib.Core.Path.{_≡_}
@@ -19,7 +19,7 @@ use Rattle.routes.specs.Ready.{Passing}
 use Rattle.handover.specs.Calls.{handoverCheck}
 
 -- what is known once every check has passed
-pub record Checked (l : Language) (n : ℕ) (a standing newer : List ℕ) (i : ℕ) (p : Places) : Type 0 where
+pub record HandoverChecked (l : Language) (n : ℕ) (a standing newer : List ℕ) (i : ℕ) (p : Places) : Type 0 where
   pub passes : handoverCheck l n a standing newer i ≡ Passed
   pub passing : Passing l n p
   pub arcs : GivenArcs (placesOf p) n a
@@ -27,20 +27,23 @@ pub record Checked (l : Language) (n : ℕ) (a standing newer : List ℕ) (i : �
   pub standing-square : Square n standing
   pub node : i < n
 
+-- what the checks of a handover give: the places, and what is known then, or the first refusal
 abbrev pub HandoverReady : Language → ℕ → List ℕ → List ℕ → List ℕ → ℕ → Ready → Type 0
-HandoverReady l n a standing newer i (Places-given p) = Checked l n a standing newer i p
+HandoverReady l n a standing newer i (Places-given p) = HandoverChecked l n a standing newer i p
 HandoverReady l n a standing newer i (Call-refused x) = handoverCheck l n a standing newer i ≡ Refused x
 
 -- entry (i, j) of the buffer has the words of entry i of a column
 abbrev pub heldAt : ℕ → List ℕ → List ℕ → ℕ → ℕ → Bool
 heldAt n s col j i = sameValues (wordsAt s (entryPlace n i j)) (wordsAt col (i * weightWords))
 
--- entry (i, j) of the buffer has the words of R(i, j); so has column j; so has every column
+-- entry (i, j) of the buffer has the words of R(i, j)
 abbrev pub entryHas : ℕ → List ℕ → Matrix → ℕ → ℕ → Bool
 entryHas n s R j i = sameValues (wordsAt s (entryPlace n i j)) (words (R i j))
 
+-- column j of the buffer has the words of column j of R
 abbrev pub columnHas : ℕ → List ℕ → Matrix → ℕ → Bool
 columnHas n s R j = every n (entryHas n s R j)
 
+-- every column of the buffer has the words of that column of R
 abbrev pub allHave : ℕ → List ℕ → Matrix → Bool
 allHave n s R = every n (columnHas n s R)

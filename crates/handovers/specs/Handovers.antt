@@ -1,5 +1,5 @@
--- What is said of handovers: when every entry is the best, lists of steps that repair a matrix or cannot, and why the equation alone
--- is not enough.
+-- What is said of handovers: when every entry is the best, lists of steps that repair a matrix or cannot, and why the equation
+-- alone is not enough.
 -- To be believed: all of it. The theorems are in proofs/Tested, Recipe, Stays, Lent, Settles and Worked.
 use Prim.Native.Nat.{ℕ, zero, suc, _+_, _≤_, _<_}
 use mathlib.Core.Path.{_≡_}
@@ -53,7 +53,7 @@ pub record LawfulNetwork (l : Language) (n : ℕ) (a : List ℕ) : Type 0 where
   pub arcs : arcsCheck (componentsOf l) n a ≡ Passed
   pub limits : SmallLimits 65535 (componentsOf l)
 
--- "Satisfying the routing equation is not enough": the new matrix satisfies the equation, and yet the row that is lent is the standing one's, which is another
+-- "Satisfying the routing equation is not enough": the new matrix satisfies it, yet the standing row is lent, which is another
 pub record NotEnough (l : Language) (n : ℕ) (a standing newer : List ℕ) (i : ℕ) : Type 0 where
   pub passes : handoverCheck l n a standing newer i ≡ Passed
   pub satisfies : solves (componentsOf l) n (matrixOf l n a) (matrixOf l n newer) ≡ true

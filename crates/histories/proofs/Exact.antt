@@ -1,8 +1,8 @@
 -- A call refuses what one of its checks gives where all before it pass, and the step call besides 11: at the first row step that
--- would store a sum above 983,025.
+-- would store a sum above 983,025; and it is done exactly where its checks pass and no step would.
 use Prim.Native.Nat.{ℕ, zero, suc, _<_}
 use mathlib.Core.Path.{_≡_, refl, sym, ap, _∙_}
-use mathlib.Core.Bool.{Bool, true, false, cond}
+use mathlib.Core.Bool.{Bool, true, false, cond, false≢true}
 use mathlib.Core.List.{List, [], _∷_, map}
 use mathlib.Core.Logic.{_⊎_, inl, inr, _↔_}
 use native.Mathlib.Omega.{arith}
@@ -25,7 +25,7 @@ use Rattle.weights.specs.Weights.{language}
 use Rattle.weights.specs.Languages.{componentsOf, countCheck, limitCheck}
 use Rattle.matrices.specs.Steps.{Matrix, solves}
 use Rattle.routes.specs.Checks.{nodesCheck, lengthCheck, lawDCheck, lawUCheck, manyCheck, listCheck}
-use Rattle.histories.specs.Exact.{StepOver, StopsAt, Eleven}
+use Rattle.histories.specs.Exact.{StepOver, StopsAt, StepsOverflow}
 use Rattle.histories.proofs.Reached.{length-steps}
 use Rattle.histories.proofs.Over.{step-over, step-fits}
 use Rattle.routes.specs.Calls.{matrixOf, freshCheck, matricesChecks, stepOf, stepFits, doneOf, rowAfterRun, stepsRowBy, stepsRow, equationCheck, equationRow, equationRowBy}
@@ -71,7 +71,7 @@ stops-exactly cs n A R (suc k) (s ∷ steps) = (
 
 -- ---- the step call
 
-module _ (l : Language) (n : ℕ) (a r list : List ℕ) (x : Refusal) where
+module _ (l : Language) (n : ℕ) (a r list : List ℕ) where
   abbrev checks : List Check
   checks = matricesChecks l n a r (manyCheck list ∷ listCheck n list ∷ [])
 
@@ -79,23 +79,49 @@ module _ (l : Language) (n : ℕ) (a r list : List ℕ) (x : Refusal) where
   count = doneOf (componentsOf l) n (matrixOf l n a) (matrixOf l n r) (map stepOf list)
 
   -- The step call refuses x exactly when one of its checks gives x and all before it pass, or x is 11.
-  pub steps-refuses : (stepsRow l n a r list .told ≡ told x) ↔ (Gives checks x ⊎ Eleven l n a r list x)
-  steps-refuses = (λ e. there (firstOf checks) refl e, back)
+  pub steps-refuses : (x : Refusal) → (stepsRow l n a r list .told ≡ told x) ↔ (Gives checks x ⊎ StepsOverflow l n a r list x)
+  steps-refuses x = (λ e. there (firstOf checks) refl e, back)
     where
-      ran : firstOf checks ≡ Passed → (b : Bool) → ltb count (length list) ≡ b → cond b (told (Sum 0 count)) done ≡ told x → Eleven l n a r list x
+      ran : firstOf checks ≡ Passed → (b : Bool) → ltb count (length list) ≡ b → cond b (told (Sum 0 count)) done ≡ told x → StepsOverflow l n a r list x
       ran p true q e = (p, (count, sym (told-one (Sum 0 count) x e), stops-exactly (componentsOf l) n (matrixOf l n a) (matrixOf l n r) count (map stepOf list) .0 (refl, rw (length-steps list) (ltb-true count (length list) q))))
       ran p false q e = absurd (told-not-done x (sym e))
 
-      there : (c : Check) → firstOf checks ≡ c → stepsRowBy c count (length list) .told ≡ told x → Gives checks x ⊎ Eleven l n a r list x
+      there : (c : Check) → firstOf checks ≡ c → stepsRowBy c count (length list) .told ≡ told x → Gives checks x ⊎ StepsOverflow l n a r list x
       there Passed p e = inr (ran p (ltb count (length list)) refl e)
       there (Refused s) p e = inl (first-exactly checks x .0 (p ∙ ap Refused (told-one s x e)))
 
-      stopped : Eleven l n a r list x → stepsRow l n a r list .told ≡ told x
+      stopped : StepsOverflow l n a r list x → stepsRow l n a r list .told ≡ told x
       stopped (p, (k, q, s)) =
           let h = stops-exactly (componentsOf l) n (matrixOf l n a) (matrixOf l n r) k (map stepOf list) .1 s in
           let m : k < length list = rw (length-steps list) at (h .1) in
           ap (λ (c : Check). stepsRowBy c count (length list) .told) p ∙ ap (λ (m : ℕ). rowAfterRun m (length list) .told) (h .0) ∙ rw (lt-ltb k (length list) m) (ap told (sym q))
 
-      back : Gives checks x ⊎ Eleven l n a r list x → stepsRow l n a r list .told ≡ told x
+      back : Gives checks x ⊎ StepsOverflow l n a r list x → stepsRow l n a r list .told ≡ told x
       back (inl g) = ap (λ (c : Check). stepsRowBy c count (length list) .told) (first-exactly checks x .1 g)
       back (inr s) = stopped s
+
+  -- step k is the first that would store a sum above 983,025
+  abbrev Stops : ℕ → Type 0
+  Stops k = StopsAt (componentsOf l) n (matrixOf l n a) (matrixOf l n r) k (map stepOf list)
+
+  -- The step call is done exactly when its checks pass and no step would store such a sum.
+  pub steps-done : (stepsRow l n a r list .told ≡ done) ↔ ((firstOf checks ≡ Passed) × ((k : ℕ) → Stops k → ⊥))
+  steps-done = (λ e. there (firstOf checks) refl e, λ h. ap (λ (c : Check). stepsRowBy c count (length list) .told) (h .0) ∙ all-run (ltb count (length list)) refl (h .1))
+    where
+      stops : (k : ℕ) → ((count ≡ k) × (k < length (map stepOf list))) ↔ Stops k
+      stops k = stops-exactly (componentsOf l) n (matrixOf l n a) (matrixOf l n r) k (map stepOf list)
+
+      none-stops : (b : Bool) → ltb count (length list) ≡ b → cond b (told (Sum 0 count)) done ≡ done → (k : ℕ) → Stops k → ⊥
+      none-stops true q e k s = told-not-done (Sum 0 count) e
+      none-stops false q e k s =
+          let h = stops k .1 s in
+          let m : k < length list = rw (length-steps list) at (h .1) in
+          false≢true (sym q ∙ ap (λ (m : ℕ). ltb m (length list)) (h .0) ∙ lt-ltb k (length list) m)
+
+      there : (c : Check) → firstOf checks ≡ c → stepsRowBy c count (length list) .told ≡ done → (firstOf checks ≡ Passed) × ((k : ℕ) → Stops k → ⊥)
+      there Passed p e = (p, none-stops (ltb count (length list)) refl e)
+      there (Refused x) p e = absurd (told-not-done x e)
+
+      all-run : (b : Bool) → ltb count (length list) ≡ b → ((k : ℕ) → Stops k → ⊥) → cond b (told (Sum 0 count)) done ≡ done
+      all-run true q f = absurd (f count (stops count .0 (refl, rw (length-steps list) (ltb-true count (length list) q))))
+      all-run false q f = refl

@@ -22,7 +22,8 @@ use Rattle.weights.specs.Laws.{testD, testU}
 use Rattle.weights.specs.Languages.{SmallLimits}
 use Rattle.weights.specs.Words.{words, reading, isGood, decoded}
 use Rattle.weights.proofs.Languages.{lawful}
-use Rattle.weights.proofs.Readings.{reads-back, SumsUpTo, Written, reads-words, well-read}
+use Rattle.weights.specs.Written.{SumsUpTo, Written}
+use Rattle.weights.proofs.Readings.{reads-back, reads-words, well-read}
 use Rattle.weights.specs.Sums.{sumOf, sumAt}
 use Rattle.weights.proofs.Sums.{sum-size, well-sum}
 use Rattle.matrices.specs.Buffers.{matrixWords, cell, wordsAt, entryPlace, matrixIn, Formed}

@@ -31,10 +31,11 @@ depotRoutes = written ((ten ∷ ten ∷ ten ∷ []) ∷ (ten ∷ ten ∷ ten ∷
 abbrev pub depotLanguage : Language
 depotLanguage = record { count = 1; first = Width 10; second = Dist; third = Dist; fourth = Dist }
 
--- their words in buffers
+-- the words of the depots' arcs
 abbrev pub depotArcWords : List ℕ
 depotArcWords = matrixWords 3 depotArcs
 
+-- the words of the matrix that satisfies the equation and is not the best
 abbrev pub depotRouteWords : List ℕ
 depotRouteWords = matrixWords 3 depotRoutes
 

@@ -45,10 +45,11 @@ abbrev pub BestColumn : Language → ℕ → List ℕ → List ℕ → ℕ → T
 BestColumn l n a s j = (i : ℕ) → i < n → Best (language (componentsOf l)) n (matrixOf l n a) i j (matrixOf l n s i j)
 
 module _ (l : Language) (n : ℕ) (a r : List ℕ) where
-  -- what the buffer holds after the fresh call and step calls with these lists, and the steps so far
+  -- what the buffer holds after the fresh call and step calls with these lists
   abbrev pub held : List (List ℕ) → List ℕ
   held lists = afterCalls l n a (freshLeft l n r) lists
 
+  -- the steps so far: those of the done calls among these lists, after the fresh call
   abbrev pub ran : List (List ℕ) → List ℕ
   ran lists = soFar l n a (freshLeft l n r) lists
 

@@ -28,7 +28,7 @@ use Rattle.routes.specs.Calls.{matrixOf, matricesChecks}
 use Rattle.routes.specs.Ready.{Passing}
 use Rattle.routes.proofs.Bridge.{buffer-goes, embedded, same-padded}
 use Rattle.routes.proofs.Order.{stops, goes-on, passed-both, node-passed, matrices-rest, passing-sound}
-use Rattle.hops.specs.declared.Found.{Found}
+use Rattle.hops.specs.declared.HopFound.{HopFound}
 use Rattle.hops.specs.declared.HopAnswer.the-variants.{Refused as HopRefused}
 use Rattle.hops.specs.NextHop.{isHop, lowestFrom, hopOf, foundAt}
 use Rattle.hops.specs.Calls.{hopCheck, hopRowBy, hopRow, hopSaid}
@@ -78,7 +78,7 @@ module _ (l : Language) (n : ℕ) (a r : List ℕ) (i j : ℕ) where
       pair-in = let h = passed-both (nodeCheck 0 n i) (nodeCheck 1 n j) q in (node-passed 0 n i (h .0), node-passed 1 n j (h .1))
 
       -- what the search found is the answer's node
-      pub found-row : (f : Found) → foundAt f ≡ hopOf (placesOf p) n (matrixIn places n a) (matrixIn places n r) i j → hopRowBy Passed (foundAt f) ≡ hopRow l n a r i j
+      pub found-row : (f : HopFound) → foundAt f ≡ hopOf (placesOf p) n (matrixIn places n a) (matrixIn places n r) i j → hopRowBy Passed (foundAt f) ≡ hopRow l n a r i j
       found-row f e₁ =
           let s = passing-sound l n p o in
           ap (hopRowBy Passed) (e₁ ∙ hop-goes (componentsOf l) p (few l) (o .placed) s n (matrixOf l n a) (matrixIn places n a) (matrixOf l n r) (matrixIn places n r)

@@ -19,7 +19,7 @@ use Rattle.routes.specs.Checks.{nodeCheck}
 use Rattle.routes.specs.Calls.{matrixOf, matricesChecks}
 use Rattle.refusals.proofs.Exactly.{told-check}
 use Rattle.routes.proofs.OneTeller.{Teller, given-where}
-use Rattle.routes.proofs.Cases.{then, node-case, nodeTeller, matricesTellers, matrices-refusals}
+use Rattle.routes.proofs.Cases.{then, done-exactly, node-case, nodeTeller, matricesTellers, matrices-refusals}
 use Rattle.hops.specs.NextHop.{hopOf, NextHop}
 use Rattle.hops.specs.Calls.{hopCheck, hopRowBy, hopRow}
 use Rattle.hops.specs.Exact.{HopRefusals}
@@ -46,13 +46,18 @@ module _ (l : Language) (n : ℕ) (a r : List ℕ) (i j : ℕ) where
   abbrev rest : List Teller
   rest = nodeTeller 0 n i ∷ nodeTeller 1 n j ∷ []
 
-  -- each refusal exactly in its case
+  -- each refusal exactly in its case, and done exactly where every check passes
   pub hop-refusals : HopRefusals l n a r i j (hopRow l n a r i j .told)
   hop-refusals = record {
     matrices = matrices-refusals l n a r rest (refl, refl, λ k. refl, refl, refl, refl, refl, λ place. refl, λ place. refl) (hopRow l n a r i j .told) (λ x f. hop-refuses x);
     no-i = then (hop-refuses (NoSuch 0 0)) (given-where 9 (matricesTellers l n a r rest) (NoSuch 0 0) refl (λ p. node-case 0 n i));
     no-j = then (hop-refuses (NoSuch 0 1)) (given-where 10 (matricesTellers l n a r rest) (NoSuch 0 1) refl (λ p. node-case 1 n j));
+    passes = done-exactly checks (hopRow l n a r i j .told) (tells (hopCheck l n a r i j) rule);
   }
+    where
+      tells : (c : Check) (o : Option ℕ) → hopRowBy c o .told ≡ checkTold c
+      tells Passed o = refl
+      tells (Refused x) o = refl
 
   -- it gives node k exactly when its checks pass and k is the next hop
   pub hop-given : (k : ℕ) → (hopRow l n a r i j .node ≡ some k) ↔ ((hopCheck l n a r i j ≡ Passed) × NextHop (componentsOf l) n (matrixOf l n a) (matrixOf l n r) i j k)

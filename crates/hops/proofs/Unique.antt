@@ -7,8 +7,8 @@ use native.Mathlib.Omega.{arith}
 use Rattle.refusals.proofs.OneToOne.{told-one, told-not-done}
 use Rattle.numbers.specs.declared.Node.{Node}
 use Rattle.weights.specs.declared.Language.{Language}
-use Rattle.hops.specs.declared.Found.{Found}
-use Rattle.hops.specs.declared.Found.the-variants.{At, Nothing}
+use Rattle.hops.specs.declared.HopFound.{HopFound}
+use Rattle.hops.specs.declared.HopFound.the-variants.{At, Nothing}
 use Rattle.hops.specs.declared.HopAnswer.{HopAnswer}
 use Rattle.hops.specs.declared.HopAnswer.the-variants.{Hop, NoHop, Refused as HopRefused}
 use Rattle.hops.specs.NextHop.{foundAt}
@@ -23,7 +23,7 @@ some-one e = cc
 some-not : {k : ℕ} → _≡_ {A = Option ℕ} (some k) nothing → ⊥
 some-not e = let z : _≡_ {A = ℕ} 1 0 = cc in omega arith
 
-pub found-one : (f g : Found) → foundAt f ≡ foundAt g → f ≡ g
+pub found-one : (f g : HopFound) → foundAt f ≡ foundAt g → f ≡ g
 found-one (At k) (At m) e = ap At (node-one k m (some-one e))
 found-one (At k) Nothing e = absurd (some-not e)
 found-one Nothing (At m) e = absurd (some-not (sym e))

@@ -25,10 +25,12 @@ pub record HopRow : Type 0 where
   pub told : Told
   pub node : Option ℕ
 
+-- the node where the checks pass, and none beside a refusal
 abbrev pub hopRowBy : Check → Option ℕ → HopRow
 hopRowBy Passed k = record { told = done; node = k }
 hopRowBy (Refused x) k = record { told = told x; node = nothing }
 
+-- the row that the call answers: its first refusal, else done with the next hop from i to j or none
 abbrev pub hopRow : Language → ℕ → List ℕ → List ℕ → ℕ → ℕ → HopRow
 hopRow l n a r i j = hopRowBy (hopCheck l n a r i j) (hopOf (componentsOf l) n (matrixOf l n a) (matrixOf l n r) i j)
 

@@ -1,5 +1,6 @@
 -- The next hop's rule (01, "Forwarding and the next hop"): "the lowest k other than i whose arc gives the route its weight".
--- To be believed: `ArcGivesWeight` and `NextHop`. That `hopOf`, which the contracts cite, gives exactly that node is `hop-exactly` (proofs/Rule).
+-- To be believed: `ArcGivesWeight` and `NextHop`. That `hopOf`, of which the contracts speak, gives exactly that node is
+-- `hop-exactly` (proofs/Rule); `foundAt` joins the code to it.
 use Prim.Native.Nat.{ℕ, zero, suc, _<_}
 use mathlib.Core.Path.{_≡_}
 use mathlib.Core.Bool.{Bool, cond, not, _&&_, _||_}
@@ -10,8 +11,8 @@ use Rattle.weights.specs.declared.Component.{Component}
 use Rattle.weights.specs.Weights.{none, join}
 use Rattle.weights.specs.Values.{same}
 use Rattle.matrices.specs.Steps.{Matrix}
-use Rattle.hops.specs.declared.Found.{Found}
-use Rattle.hops.specs.declared.Found.the-variants.{At, Nothing}
+use Rattle.hops.specs.declared.HopFound.{HopFound}
+use Rattle.hops.specs.declared.HopFound.the-variants.{At, Nothing}
 
 -- k is other than i, and its arc gives the route its weight: A(i,k) joined R(k,j) equals R(i,j)
 pub record ArcGivesWeight (cs : List Component) (n : ℕ) (A R : Matrix) (i j k : ℕ) : Type 0 where
@@ -42,6 +43,6 @@ abbrev pub hopOf : List Component → ℕ → Matrix → Matrix → ℕ → ℕ 
 hopOf cs n A R i j = cond (eqb i j || same (R i j) none) nothing (lowestFrom (isHop cs A R i j) 0 n)
 
 -- what the code's search says
-abbrev pub foundAt : Found → Option ℕ
+abbrev pub foundAt : HopFound → Option ℕ
 foundAt (At node) = some (node .0)
 foundAt Nothing = nothing

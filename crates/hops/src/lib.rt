@@ -6,7 +6,7 @@ use numbers::Node;
 use refusals::Refusal;
 
 // What a search over the nodes finds.
-pub enum Found {
+pub enum HopFound {
     At(Node),
     Nothing,
 }

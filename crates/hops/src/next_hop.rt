@@ -1,6 +1,6 @@
 // The call that gives the next hop from i to j.
-use super::Found;
 use super::HopAnswer;
+use super::HopFound;
 use super::search;
 use numbers::Node;
 use refusals::Check;
@@ -39,8 +39,8 @@ pub fn next_hop(l: Language, n: u32, a: &[u32], r: &[u32], i: u32, j: u32) -> Ho
                 Node(i as usize),
                 Node(j as usize),
             ) {
-                Found::At(k) => HopAnswer::Hop(k),
-                Found::Nothing => HopAnswer::NoHop,
+                HopFound::At(k) => HopAnswer::Hop(k),
+                HopFound::Nothing => HopAnswer::NoHop,
             },
         },
     }

@@ -1,5 +1,5 @@
 // The next hop's rule: the lowest k other than i whose arc gives the route its weight.
-use super::Found;
+use super::HopFound;
 use numbers::Node;
 use weights::Places;
 use weights::WEIGHT_WORDS;
@@ -37,17 +37,25 @@ fn is_hop(
 }
 
 // The lowest hop, by a loop that yields the found node, or none.
-fn lowest_hop(p: Places, n: usize, a: &[u32], r: &[u32], i: usize, j: usize, route: Weight) -> Found
+fn lowest_hop(
+    p: Places,
+    n: usize,
+    a: &[u32],
+    r: &[u32],
+    i: usize,
+    j: usize,
+    route: Weight,
+) -> HopFound
     requires { ⌜ Given (placesOf p) n (now a) (now r) × (i < n) × (j < n) × (weightOf route ≡ matrixIn places n (now r) i j) ⌝ }
     ensures { λ f. ⌜ foundAt f ≡ lowestFrom (isHop (placesOf p) (matrixIn places n (now (a .entry))) (matrixIn places n (now (r .entry))) i j) 0 n ⌝ }
 {
     let mut k: usize = 0;
     let found = loop {
         if n <= k {
-            break Found::Nothing;
+            break HopFound::Nothing;
         }
         if is_hop(p, n, a, r, i, j, k, route) {
-            break Found::At(Node(k));
+            break HopFound::At(Node(k));
         }
         k += 1;
     };
@@ -55,14 +63,14 @@ fn lowest_hop(p: Places, n: usize, a: &[u32], r: &[u32], i: usize, j: usize, rou
 }
 
 // The next hop: none where i = j and where R(i,j) is no route.
-pub fn hop(p: Places, n: usize, a: &[u32], r: &[u32], from: Node, to: Node) -> Found
+pub fn hop(p: Places, n: usize, a: &[u32], r: &[u32], from: Node, to: Node) -> HopFound
     requires { ⌜ Given (placesOf p) n (now a) (now r) × (from .0 < n) × (to .0 < n) ⌝ }
     ensures { λ f. ⌜ foundAt f ≡ hopOf (placesOf p) n (matrixIn places n (now (a .entry))) (matrixIn places n (now (r .entry))) (from .0) (to .0) ⌝ }
 {
     let i = from.0;
     let j = to.0;
     if i == j {
-        return Found::Nothing;
+        return HopFound::Nothing;
     }
     let route = weights::words::weight_at(r, i * (n * WEIGHT_WORDS) + j * WEIGHT_WORDS);
     match route {
@@ -72,6 +80,6 @@ pub fn hop(p: Places, n: usize, a: &[u32], r: &[u32], from: Node, to: Node) -> F
             third: _,
             fourth: _,
         } => lowest_hop(p, n, a, r, i, j, route),
-        Weight::NoRoute => Found::Nothing,
+        Weight::NoRoute => HopFound::Nothing,
     }
 }

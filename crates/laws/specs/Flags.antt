@@ -1,5 +1,5 @@
 -- How the code finds a witness: a flag for each place, and words laid over others at the first flag.
--- They join the code to the report; what has to be believed is the report.
+-- They join the code to Report; nothing here has to be believed.
 use Prim.Native.Nat.{ℕ}
 use mathlib.Core.Bool.{Bool, false, cond, _&&_, _||_}
 use mathlib.Core.List.{List, [], _∷_}

@@ -1,5 +1,5 @@
 -- Matrices of weights in flat buffers of words, by rows (01, "Numbers of the network"), and refusal 6 on one.
--- To be believed: all of it.
+-- To be believed: all but `rowIn`, by which the inner functions speak of a row.
 use Prim.Native.Nat.{ℕ, zero, suc, _+_, _*_, _≤_, _<_}
 use mathlib.Core.Path.{_≡_}
 use mathlib.Core.Bool.{Bool, true, false, cond}

@@ -1,4 +1,5 @@
--- What the inner functions say on the way to Buffers and Steps: one arc taken into a row.
+-- What the inner functions say and rely on, on the way to Buffers and Steps: one arc taken into a row, rows with no value above
+-- 983,025, rows that are the same, and languages of one component.
 -- They join the code to those; nothing here has to be believed.
 use Prim.Native.Nat.{ℕ}
 use mathlib.Core.Path.{_≡_}
@@ -24,6 +25,7 @@ abbrev pub allLow : List ℕ → Bool
 allLow [] = true
 allLow (x ∷ xs) = leb x matrixSum && allLow xs
 
+-- no value of the weight is above 983,025; no route has none
 abbrev pub low : Weight → Bool
 low none = true
 low (route xs) = allLow xs

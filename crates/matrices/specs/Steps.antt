@@ -1,5 +1,6 @@
 -- A row step with its refusal 11, and the test of the routing equation, on matrices as functions from (i, j) to weights.
--- To be believed: all but `Given`, which says what the inner functions may rely on, and `GivenArcs`, the same of the arcs alone.
+-- To be believed: all but `stepped`, which says what the inner function of a row step leaves, and `Given` and `GivenArcs`, which
+-- say what the inner functions may rely on.
 use Prim.Native.Nat.{ℕ, zero, suc}
 use mathlib.Core.Path.{_≡_}
 use mathlib.Core.Bool.{Bool, true, cond, _&&_}
@@ -26,11 +27,13 @@ sumFits (Width w) v = true
 sumFits (Class c) v = true
 sumFits Gain v = leb v matrixSum
 
+-- every sum among the values is at most 983,025, whatever the widths and classes are
 abbrev pub sumsFit : List Component → List ℕ → Bool
 sumsFit [] xs = true
 sumsFit (c ∷ cs) [] = true
 sumsFit (c ∷ cs) (x ∷ xs) = sumFits c x && sumsFit cs xs
 
+-- a row step may store the weight: no route, or a route with no sum above 983,025
 abbrev pub weightFits : List Component → Weight → Bool
 weightFits cs none = true
 weightFits cs (route xs) = sumsFit cs xs
@@ -48,10 +51,11 @@ rowFits cs n A R i = every n (λ j. weightFits cs (routed (language cs) n A R i 
 abbrev pub stepped : List Component → ℕ → Matrix → Matrix → ℕ → Matrix
 stepped cs n A R i = cond (rowFits cs n A R i) (step (language cs) n A (row i) R) R
 
--- R satisfies R = (A join R) best fresh: a test, row by row
+-- row i of R satisfies the equation: each R(i,j) is what row step i would set it to
 abbrev pub rowSolves : List Component → ℕ → Matrix → Matrix → ℕ → Bool
 rowSolves cs n A R i = every n (λ j. same (routed (language cs) n A R i j) (R i j))
 
+-- R satisfies R = (A join R) best fresh in every row: a test
 abbrev pub solves : List Component → ℕ → Matrix → Matrix → Bool
 solves cs n A R = every n (rowSolves cs n A R)
 

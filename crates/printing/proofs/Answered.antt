@@ -19,7 +19,7 @@ use Rattle.records.specs.declared.Listing.the-variants.{Arcs, Attachments}
 use Rattle.records.specs.Records.{listEnd}
 use Rattle.files.specs.declared.ReadAnswer.the-variants.{Done, Refused}
 use Rattle.files.specs.File.{fileRead}
-use Rattle.files.specs.Contents.{wide, columns, sizeOf, listedWords, listedTable, listOver}
+use Rattle.files.specs.Contents.{wordsEach, columns, sizeOf, listedWords, listedTable, listOver}
 use Rattle.files.specs.Answers.{Row, headRow, sized, ReadSays}
 use Rattle.files.proofs.Tables.{length-grid}
 use Rattle.files.proofs.Storing.{listed-wide}
@@ -32,7 +32,7 @@ use Rattle.printing.specs.Printed.{textOf, textRead, printed}
 length-table : (s : List ℕ) (h : Head) (list : Listing) (first count : ℕ) → length (listedTable s h list first count) ≡ sizeOf h list
 unfolding listedTable sizeOf
 length-table s h list first count =
-    length-grid (wide list) (listedWords s h list first count) (listed-wide s h list first count) (h .n) (columns h list)
+    length-grid (wordsEach list) (listedWords s h list first count) (listed-wide s h list first count) (h .n) (columns h list)
 
 -- the part of a buffer that a list was written into is the list's table
 list-lent : (s : List ℕ) (h : Head) (list : Listing) (at : ℕ) (buffer : List ℕ)

@@ -9,7 +9,7 @@ use lib.ListN.{set}
 use Rattle.decimals.specs.Texts.{Put}
 use Rattle.decimals.proofs.Putting.{put-byte, put-as}
 use Rattle.texts.proofs.Growing.{Grown, grown-none, grown-more}
-use Rattle.printing.specs.Work.{sweep}
+use Rattle.printing.specs.Work.{sweepList}
 
 -- a number by itself
 abbrev pub alone : ℕ → List ℕ
@@ -27,12 +27,12 @@ sweep-more s₀ at i s p = ending (grown-more 1 alone s₀ at i p (put-byte s (a
 
 -- the same sweep in each round
 abbrev pub round : ℕ → ℕ → List ℕ
-round n t = sweep n
+round n t = sweepList n
 
 pub sweeps-none : (n : ℕ) (s : List ℕ) → Grown n (round n) s 0 0 s (0 * n)
 sweeps-none n s = ending (grown-none n (round n) s 0) (omega (arith, zero-mul n))
 
-pub sweeps-more : (n t : ℕ) (s₀ : List ℕ) {s s′ : List ℕ} → Grown n (round n) s₀ 0 t s (t * n) → Put (n * 1) s (t * n) (sweep n) s′ (t * n + n)
+pub sweeps-more : (n t : ℕ) (s₀ : List ℕ) {s s′ : List ℕ} → Grown n (round n) s₀ 0 t s (t * n) → Put (n * 1) s (t * n) (sweepList n) s′ (t * n + n)
     → Grown n (round n) s₀ 0 (t + 1) s′ ((t + 1) * n)
 sweeps-more n t s₀ p q =
     ending (grown-more n (round n) s₀ 0 t p (put-as q refl (omega (arith, mul-one n)))) (omega (arith, suc-mul t n, ap (λ (z : ℕ). z * n) (add-one t)))

@@ -17,16 +17,16 @@ use Rattle.weights.specs.declared.Language.{Language}
 use Rattle.routes.specs.Calls.{freshCheck, freshLeftBy, freshLeft, StepsRow, stepsRow, stepsLeft}
 use Rattle.decimals.specs.Texts.{Put}
 use Rattle.decimals.proofs.Putting.{put-front}
-use Rattle.printing.specs.Work.{sweeps, firstTold, routesTold, routesLeftBy, routesLeft}
+use Rattle.printing.specs.Work.{sweepsList, firstTold, routesTold, routesLeftBy, routesLeft}
 
 -- ---- the list
 
 pub sweeps-few : (n : ℕ) → n ≤ 16 → (n - 1) * n ≤ 240
 sweeps-few n h = let few : n - 1 ≤ 15 = omega arith in mul-le-mul few h
 
-module _ (n : ℕ) {s s′ : List ℕ} (p : Put ((n - 1) * n) s 0 (sweeps n) s′ ((n - 1) * n)) (fits : (n - 1) * n ≤ length s) where
+module _ (n : ℕ) {s s′ : List ℕ} (p : Put ((n - 1) * n) s 0 (sweepsList n) s′ ((n - 1) * n)) (fits : (n - 1) * n ≤ length s) where
   -- the part of the list that is lent is the sweeps
-  pub sweeps-lent : take ((n - 1) * n) s′ ≡ sweeps n
+  pub sweeps-lent : take ((n - 1) * n) s′ ≡ sweepsList n
   sweeps-lent = put-front p (omega (arith, p .ends))
 
   pub sweeps-long : (n - 1) * n ≡ length (take ((n - 1) * n) s′)
@@ -42,19 +42,19 @@ module _ (l : Language) (n : ℕ) (a r : List ℕ) (t : Told) where
   fresh-refused r₁ x e q h = go (freshCheck l n r) e q
     where
       go : (k : Check) → told x ≡ checkTold k → r₁ ≡ freshLeftBy k l n r
-          → (t ≡ firstTold k (stepsRow l n a (freshLeft l n r) (sweeps n) .told)) × (r₁ ≡ routesLeftBy k l n a r)
+          → (t ≡ firstTold k (stepsRow l n a (freshLeft l n r) (sweepsList n) .told)) × (r₁ ≡ routesLeftBy k l n a r)
       go Passed e q = absurd (told-not-done x e)
       go (Refused y) e q = (h ∙ e, q)
 
   -- the fresh call is done, and the steps are tried
-  pub steps-tried : (r₁ r₂ list : List ℕ) (row : StepsRow) → done ≡ checkTold (freshCheck l n r) → r₁ ≡ freshLeft l n r → list ≡ sweeps n
+  pub steps-tried : (r₁ r₂ list : List ℕ) (row : StepsRow) → done ≡ checkTold (freshCheck l n r) → r₁ ≡ freshLeft l n r → list ≡ sweepsList n
       → row ≡ stepsRow l n a r₁ list → r₂ ≡ stepsLeft l n a r₁ list → t ≡ row .told
       → (t ≡ routesTold l n a r) × (r₂ ≡ routesLeft l n a r)
   unfolding routesTold routesLeft
   steps-tried r₁ r₂ list row e q w u v h = go (freshCheck l n r) e
     where
       go : (k : Check) → done ≡ checkTold k
-          → (t ≡ firstTold k (stepsRow l n a (freshLeft l n r) (sweeps n) .told)) × (r₂ ≡ routesLeftBy k l n a r)
+          → (t ≡ firstTold k (stepsRow l n a (freshLeft l n r) (sweepsList n) .told)) × (r₂ ≡ routesLeftBy k l n a r)
       go Passed e = (
         h ∙ ap (λ (z : StepsRow). z .told) u
             ∙ ap (λ (z : List ℕ). stepsRow l n a z list .told) q

@@ -16,12 +16,12 @@ use Rattle.routes.specs.Calls.{freshCheck, freshLeft, stepsRow, stepsLeft}
 use Rattle.forwarding.specs.Calls.{forwardCheck, forwardLeft}
 
 -- rows 0..n-1 in order
-abbrev pub sweep : ℕ → List ℕ
-sweep n = blocks n (λ i. i ∷ [])
+abbrev pub sweepList : ℕ → List ℕ
+sweepList n = blocks n (λ i. i ∷ [])
 
 -- n-1 times
-abbrev pub sweeps : ℕ → List ℕ
-sweeps n = blocks (n - 1) (λ _. sweep n)
+abbrev pub sweepsList : ℕ → List ℕ
+sweepsList n = blocks (n - 1) (λ _. sweepList n)
 
 -- where the first call is refused, its refusal; else the second call's row
 abbrev pub firstTold : Check → Told → Told
@@ -30,12 +30,12 @@ firstTold Passed t = t
 
 -- The fresh call on a buffer r, then the step call with the sweeps: what is told, and what r holds then.
 unfoldable pub routesTold : Language → ℕ → List ℕ → List ℕ → Told
-routesTold l n a r = firstTold (freshCheck l n r) (stepsRow l n a (freshLeft l n r) (sweeps n) .told)
+routesTold l n a r = firstTold (freshCheck l n r) (stepsRow l n a (freshLeft l n r) (sweepsList n) .told)
 
 -- what r holds, by the check of the fresh call
 abbrev pub routesLeftBy : Check → Language → ℕ → List ℕ → List ℕ → List ℕ
 routesLeftBy (Refused x) l n a r = r
-routesLeftBy Passed l n a r = stepsLeft l n a (freshLeft l n r) (sweeps n)
+routesLeftBy Passed l n a r = stepsLeft l n a (freshLeft l n r) (sweepsList n)
 
 -- what r holds after both calls
 unfoldable pub routesLeft : Language → ℕ → List ℕ → List ℕ → List ℕ

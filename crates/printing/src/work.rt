@@ -11,12 +11,12 @@ ghost use mathlib.Core.Path.{_≡_};
 ghost use Prim.Native.Nat.{_+_, _-_, _*_, _≤_, _<_};
 ghost use lib.ListN.{length};
 ghost use Rattle.decimals.specs.Texts.{Put};
-ghost use Rattle.printing.specs.Work.{sweep, sweeps, routesTold, routesLeft, tableTold, tableLeft};
+ghost use Rattle.printing.specs.Work.{sweepList, sweepsList, routesTold, routesLeft, tableTold, tableLeft};
 
 // Puts 0..n-1 from `at` on.
 fn put_sweep(n: usize, at: usize, list: &mut [u32])
     requires { ⌜ (n ≤ 16) × (at + n ≤ length (now list)) ⌝ }
-    ensures { λ _. ⌜ Put (n * 1) (now (list .entry)) at (sweep n) (now (list .exit)) (at + n) ⌝ }
+    ensures { λ _. ⌜ Put (n * 1) (now (list .entry)) at (sweepList n) (now (list .exit)) (at + n) ⌝ }
 {
     for i in 0..n {
         list[at + i] = i as u32;
@@ -26,7 +26,7 @@ fn put_sweep(n: usize, at: usize, list: &mut [u32])
 // Puts the sweeps at the front.
 fn put_sweeps(n: usize, list: &mut [u32])
     requires { ⌜ (0 < n) × (n ≤ 16) × (240 ≤ length (now list)) ⌝ }
-    ensures { λ _. ⌜ Put ((n - 1) * n) (now (list .entry)) 0 (sweeps n) (now (list .exit)) ((n - 1) * n) ⌝ }
+    ensures { λ _. ⌜ Put ((n - 1) * n) (now (list .entry)) 0 (sweepsList n) (now (list .exit)) ((n - 1) * n) ⌝ }
 {
     let rounds = n - 1;
     for t in 0..rounds {

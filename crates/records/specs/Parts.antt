@@ -1,5 +1,5 @@
 -- What the inner functions say on the way to Records, and what a second pass relies on.
--- They join the code to those; nothing of it has to be believed.
+-- They join the code to Records; nothing here has to be believed.
 use Prim.Native.Nat.{ℕ, _+_, _*_, _<_}
 use mathlib.Core.Bool.{cond}
 use mathlib.Core.List.{List}

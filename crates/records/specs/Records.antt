@@ -1,4 +1,4 @@
--- The records of a problem file: one record, the two lists, and the first refusal where they are wrong (01, "File" and "Refusal numbers").
+-- The records of a problem file: one record, the two lists, and the first refusal where they are wrong (01, "File").
 -- To be believed: all of it.
 use Prim.Native.Nat.{ℕ, zero, suc, _+_, _*_}
 use mathlib.Core.Bool.{cond}

@@ -13,6 +13,7 @@ row number which place = record { number = number; which = which; place = place 
 abbrev pub done : Told
 done = row 0 0 0
 
+-- 01's number of each refusal, beside the which and the place that it was made with
 abbrev pub told : Refusal → Told
 -- count of bytes wrong, field or record cut, bytes left over
 told (Bytes which place) = row 1 which place

@@ -1,70 +1,54 @@
--- Each check refuses exactly in its case, in words; and a call on A and R gives each refusal of its shared checks exactly in that case.
-use Prim.Native.Nat.{ℕ, zero, suc, _+_, _-_, _*_, _≤_, _<_}
-use mathlib.Core.Path.{_≡_, refl, sym, ap, subst, _∙_}
+-- Each check refuses exactly in its case, in words; a call on A and R gives each refusal of its shared checks exactly in that case; and
+-- a call is done exactly where every check passes.
+use Prim.Native.Nat.{ℕ, suc, _+_, _-_, _*_, _≤_, _<_}
+use mathlib.Core.Path.{_≡_, refl, sym, ap, _∙_}
 use mathlib.Core.Bool.{Bool, true, false, cond, _&&_, _||_, false≢true}
 use mathlib.Core.List.{List, [], _∷_, _++_}
 use mathlib.Core.Logic.{_⊎_, inl, inr, _↔_}
 use native.Mathlib.Omega.{arith}
 use lib.Dec.{leb, ltb, eqb}
 use lib.ListN.{length}
-use borrow.Author.Tests.{leb-true, le-leb, ltb-true, lt-ltb, eqb-true, eq-eqb}
+use borrow.Author.Tests.{ltb-true, lt-ltb, eqb-true, eq-eqb}
 use Rattle.refusals.specs.declared.Refusal.{Refusal}
 use Rattle.refusals.specs.declared.Refusal.the-variants.{Size, BadComponent, BadCount, Value, NoSuch, Length, Law, TooMany}
 use Rattle.refusals.specs.declared.Check.{Check}
 use Rattle.refusals.specs.declared.Check.the-variants.{Passed, Refused}
 use Rattle.refusals.specs.declared.Told.{Told}
-use Rattle.refusals.specs.Told.{told}
-use Rattle.refusals.specs.Checks.{unless, Pass, Gives}
-use Rattle.refusals.proofs.First.{passed-not}
-use Rattle.refusals.proofs.Exactly.{unless-refuses}
+use Rattle.refusals.specs.Told.{told, done}
+use Rattle.refusals.specs.Checks.{firstOf, checkTold, Pass, Gives}
+use Rattle.refusals.proofs.OneToOne.{told-not-done}
+use Rattle.refusals.proofs.First.{passed-not, pass-first, first-passes}
 use Rattle.weights.specs.declared.Component.{Component}
-use Rattle.weights.specs.declared.Component.the-variants.{Dist, Width, Class, Gain}
 use Rattle.weights.specs.declared.Language.{Language}
 use Rattle.weights.specs.Sizes.{places, weightWords, arcSum, matrixSum}
-use Rattle.weights.specs.Weights.{Sound, SoundLimit}
+use Rattle.weights.specs.Weights.{Sound}
 use Rattle.weights.specs.Laws.{LawD, LawU, testD, testU}
-use Rattle.weights.specs.Languages.{componentsOf, soundLimit, limitsFrom, countCheck, limitCheck}
+use Rattle.weights.specs.Languages.{componentsOf, soundLimit, limitsFrom, limitCheck, FirstNot}
 use Rattle.weights.proofs.Checking.{limits-exact}
 use Rattle.weights.proofs.Decided.{D-exact, U-exact}
-use Rattle.weights.proofs.Ordering.{clash}
+use Rattle.weights.proofs.Cases.{refuses-where, passes-where, both-exactly, leb-exactly, count-case, firstFrom, first-case, limits-are, limit-case}
 use Rattle.matrices.specs.Buffers.{wellFormed, firstMalformed, matrixCheck, Square}
 use Rattle.matrices.proofs.Malformed.{refuses-first, check-refuses}
 use Rattle.routes.specs.Checks.{mostNodes, mostSteps, firstSettle, nodesCheck, lengthCheck, lawDCheck, lawUCheck, manyCheck, isStep, stepsFrom, listCheck, nodeCheck}
-use Rattle.routes.specs.Exact.{NodesInRange, CountInRange, MatrixLong, IsStep, FirstNot, sizes, MatricesRefusals}
-use Rattle.routes.proofs.Order.{refused-one, nodes-passed, length-passed, unless-passes}
+use Rattle.routes.specs.Exact.{NodesInRange, MatrixLong, IsStep, sizes, MatricesRefusals}
+use Rattle.routes.proofs.Order.{refused-one, nodes-passed, length-passed}
 use Rattle.routes.proofs.OneTeller.{Teller, checksOf, ofNumber, ofBuffer, one, noneTells, given-where}
 
 -- one equivalence after another
 pub then : {P Q S : Type 0} → P ↔ Q → Q ↔ S → P ↔ S
 then x y = (λ p. y .0 (x .0 p), λ s. x .1 (y .1 s))
 
--- ---- a check with one refusal
-
--- a test fails exactly where what it decides does
-pub by-test : {b : Bool} {P : Type 0} → (b ≡ true) ↔ P → (b ≡ false) ↔ (P → ⊥)
-by-test {b} {P} x = (λ e p. clash b (x .1 p) e, λ f. go b refl f)
+-- a call whose answer is its checks' is done exactly where every check passes
+pub done-exactly : (checks : List Check) (answer : Told) → answer ≡ checkTold (firstOf checks) → (answer ≡ done) ↔ Pass checks
+done-exactly checks answer e = (λ d. first-passes checks (passed (firstOf checks) (sym e ∙ d)), λ p. e ∙ ap checkTold (pass-first checks p))
   where
-    go : (c : Bool) → b ≡ c → (P → ⊥) → b ≡ false
-    go true e f = absurd (f (x .0 e))
-    go false e f = e
+    passed : (c : Check) → checkTold c ≡ done → c ≡ Passed
+    passed Passed d = refl
+    passed (Refused x) d = absurd (told-not-done x d)
 
--- so the check refuses there
-pub refuses-where : {b : Bool} {P : Type 0} (r : Refusal) → (b ≡ true) ↔ P → (unless b r ≡ Refused r) ↔ (P → ⊥)
-refuses-where {b} r x = (λ e. by-test x .0 (unless-refuses b r r e .0), λ f. ap (λ (c : Bool). unless c r) (by-test x .1 f))
+-- ---- tests, in words
 
--- .. and passes elsewhere
-pub passes-where : {b : Bool} {P : Type 0} (r : Refusal) → (b ≡ true) ↔ P → (unless b r ≡ Passed) ↔ P
-passes-where {b} r x = (λ e. x .0 (unless-passes b r e), λ p. ap (λ (c : Bool). unless c r) (x .1 p))
-
--- two tests
-pub both-exactly : {a b : Bool} {P Q : Type 0} → (a ≡ true) ↔ P → (b ≡ true) ↔ Q → ((a && b) ≡ true) ↔ (P × Q)
-both-exactly {a} {b} x y = (λ e. go a b e (x .0) (y .0), λ (p, q). rw (x .1 p, y .1 q))
-  where
-    go : {P Q : Type 0} (a b : Bool) → (a && b) ≡ true → (a ≡ true → P) → (b ≡ true → Q) → P × Q
-    go true true e f g = (f refl, g refl)
-    go true false e f g = absurd (false≢true e)
-    go false b e f g = absurd (false≢true e)
-
+-- one of two tests
 pub either-exactly : {a b : Bool} {P Q : Type 0} → (a ≡ true) ↔ P → (b ≡ true) ↔ Q → ((a || b) ≡ true) ↔ (P ⊎ Q)
 either-exactly {a} {b} {P} {Q} x y = (λ e. go a b e (x .0) (y .0), back)
   where
@@ -81,9 +65,6 @@ either-exactly {a} {b} {P} {Q} x y = (λ e. go a b e (x .0) (y .0), back)
     back (inl p) = rw (x .1 p)
     back (inr q) = or-true a (y .1 q)
 
-pub leb-exactly : (i j : ℕ) → (leb i j ≡ true) ↔ (i ≤ j)
-leb-exactly i j = (leb-true i j, le-leb i j)
-
 pub ltb-exactly : (i j : ℕ) → (ltb i j ≡ true) ↔ (i < j)
 ltb-exactly i j = (ltb-true i j, lt-ltb i j)
 
@@ -94,9 +75,6 @@ eqb-exactly i j = (eqb-true i j, eq-eqb i j)
 
 pub nodes-case : (n : ℕ) → (nodesCheck n ≡ Refused (Size 1 0)) ↔ (NodesInRange n → ⊥)
 nodes-case n = refuses-where (Size 1 0) (both-exactly (leb-exactly 1 n) (leb-exactly n mostNodes))
-
-pub count-case : (l : Language) → (countCheck l ≡ Refused (BadCount 0 0)) ↔ (CountInRange l → ⊥)
-count-case l = refuses-where (BadCount 0 0) (both-exactly (leb-exactly 1 (l .count)) (leb-exactly (l .count) places))
 
 pub length-case : (which n : ℕ) (s : List ℕ) → (lengthCheck which n s ≡ Refused (Length which 0)) ↔ (MatrixLong n s → ⊥)
 length-case which n s = refuses-where (Length which 0) (eqb-exactly (length s) (n * (n * weightWords)))
@@ -117,51 +95,7 @@ many-case list = refuses-where (TooMany 0 0) (leb-exactly (length list) mostStep
 pub node-case : (place n i : ℕ) → (nodeCheck place n i ≡ Refused (NoSuch 0 place)) ↔ (i < n → ⊥)
 node-case place n i = refuses-where (NoSuch 0 place) (ltb-exactly i n)
 
--- ---- the first of a list that is not so: 4 and 7
-
--- a search of a list, counted from i
-abbrev firstFrom : {X : Type 0} → (X → Bool) → (ℕ → Refusal) → ℕ → List X → Check
-firstFrom test at i [] = Passed
-firstFrom test at i (x ∷ xs) = cond (test x) (firstFrom test at (suc i) xs) (Refused (at i))
-
-module _ {X : Type 0} (test : X → Bool) (So : X → Type 0) (exactly : (x : X) → (test x ≡ true) ↔ So x) (at : ℕ → Refusal) (at-one : (j k : ℕ) → at j ≡ at k → j ≡ k) where
-  first-found : (i : ℕ) (xs : List X) (r : Refusal) → firstFrom test at i xs ≡ Refused r → (k : ℕ) × (r ≡ at (i + k)) × FirstNot So k xs
-  first-found i [] r e = absurd (passed-not r e)
-  first-found i (x ∷ xs) r e = go (test x) refl e (first-found (suc i) xs r)
-    where
-      later : So x → (k : ℕ) × (r ≡ at (suc i + k)) × FirstNot So k xs → (k : ℕ) × (r ≡ at (i + k)) × FirstNot So k (x ∷ xs)
-      later s (k, q, f) = let z : suc i + k ≡ i + suc k = omega arith in (suc k, q ∙ ap at z, (s, f))
-
-      go : (b : Bool) → test x ≡ b → cond b (firstFrom test at (suc i) xs) (Refused (at i)) ≡ Refused r → (firstFrom test at (suc i) xs ≡ Refused r → (k : ℕ) × (r ≡ at (suc i + k)) × FirstNot So k xs)
-          → (k : ℕ) × (r ≡ at (i + k)) × FirstNot So k (x ∷ xs)
-      go true p q ih = later (exactly x .0 p) (ih q)
-      go false p q ih = let z : i ≡ i + 0 = omega arith in (zero, sym (refused-one q) ∙ ap at z, by-test (exactly x) .0 p)
-
-  found-first : (k i : ℕ) (xs : List X) → FirstNot So k xs → firstFrom test at i xs ≡ Refused (at (i + k))
-  found-first k i [] f = absurd f
-  found-first zero i (x ∷ xs) f = let z : i ≡ i + 0 = omega arith in rw (by-test (exactly x) .1 f) (ap (λ (j : ℕ). Refused (at j)) z)
-  found-first (suc k) i (x ∷ xs) f = let z : suc i + k ≡ i + suc k = omega arith in rw (exactly x .1 (f .0)) (found-first k (suc i) xs (f .1) ∙ ap (λ (j : ℕ). Refused (at j)) z)
-
-  first-case : (k : ℕ) (xs : List X) → (firstFrom test at 0 xs ≡ Refused (at k)) ↔ FirstNot So k xs
-  first-case k xs = (λ e. there (first-found 0 xs (at k) e), λ f. let z : 0 + k ≡ k = omega arith in found-first k 0 xs f ∙ ap (λ (j : ℕ). Refused (at j)) z)
-    where
-      there : (j : ℕ) × (at k ≡ at (0 + j)) × FirstNot So j xs → FirstNot So k xs
-      there (j, q, f) = let h : k ≡ 0 + j = at-one k (0 + j) q in let z : j ≡ k = omega arith in subst (λ (m : ℕ). FirstNot So m xs) z f
-
-limit-exactly : (c : Component) → (soundLimit c ≡ true) ↔ SoundLimit c
-limit-exactly Dist = (λ e. tt, λ s. refl)
-limit-exactly (Width w) = leb-exactly 1 w
-limit-exactly (Class k) = (λ e. tt, λ s. refl)
-limit-exactly Gain = (λ e. tt, λ s. refl)
-
-limits-are : (i : ℕ) (cs : List Component) → limitsFrom i cs ≡ firstFrom soundLimit (BadComponent 0) i cs
-limits-are i [] = refl
-limits-are i (c ∷ cs) = ap (λ (k : Check). cond (soundLimit c) k (Refused (BadComponent 0 i))) (limits-are (suc i) cs)
-
-pub limit-case : (l : Language) (k : ℕ) → (limitCheck l ≡ Refused (BadComponent 0 k)) ↔ FirstNot SoundLimit k (componentsOf l)
-limit-case l k =
-    let exactly = first-case soundLimit SoundLimit limit-exactly (BadComponent 0) (λ i j e. ap (λ (r : Refusal). told r .place) e) k (componentsOf l) in
-    (λ e. exactly .0 (sym (limits-are 0 (componentsOf l)) ∙ e), λ f. limits-are 0 (componentsOf l) ∙ exactly .1 f)
+-- ---- the first number of a list that is no step: 7
 
 step-exactly : (n x : ℕ) → (isStep n x ≡ true) ↔ IsStep n x
 step-exactly n x = either-exactly (ltb-exactly x n) (settle-exactly (both-exactly (leb-exactly firstSettle x) (ltb-exactly (x - firstSettle) n)))

@@ -34,11 +34,12 @@ matrixOf l n s = matrixIn (length (componentsOf l)) n s
 abbrev pub freshCheck : Language → ℕ → List ℕ → Check
 freshCheck l n r = firstOf (nodesCheck n ∷ countCheck l ∷ limitCheck l ∷ lengthCheck 2 n r ∷ lawDCheck (componentsOf l) ∷ lawUCheck (componentsOf l) ∷ [])
 
--- what the buffer holds then
+-- the fresh matrix where the checks pass; on refusal r as it was
 abbrev pub freshLeftBy : Check → Language → ℕ → List ℕ → List ℕ
 freshLeftBy Passed l n r = matrixWords n (fresh (language (componentsOf l)))
 freshLeftBy (Refused x) l n r = r
 
+-- what the call leaves in r, by its own checks
 abbrev pub freshLeft : Language → ℕ → List ℕ → List ℕ
 freshLeft l n r = freshLeftBy (freshCheck l n r) l n r
 
@@ -63,12 +64,13 @@ unfoldable pub doneOf : List Component → ℕ → Matrix → Matrix → List St
 doneOf cs n A R [] = 0
 doneOf cs n A R (s ∷ steps) = cond (stepFits cs n A R s) (suc (doneOf cs n A (step (language cs) n A s R) steps)) 0
 
--- 3, 5, 4, 9 (A, R), 10, 6 on A, R, 13, 7
+-- 3, 5, 4, 9 (A, R), 10, 6 on A, R, and then the checks that a call has besides
 abbrev pub matricesChecks : Language → ℕ → List ℕ → List ℕ → List Check → List Check
 matricesChecks l n a r rest =
     nodesCheck n ∷ countCheck l ∷ limitCheck l ∷ lengthCheck 1 n a ∷ lengthCheck 2 n r ∷ lawDCheck (componentsOf l) ∷ lawUCheck (componentsOf l)
     ∷ arcsCheck (componentsOf l) n a ∷ routesCheck (componentsOf l) n r ∷ rest
 
+-- 3, 5, 4, 9 (A, R), 10, 6 on A, R, 13, 7
 abbrev pub stepsCheck : Language → ℕ → List ℕ → List ℕ → List ℕ → Check
 stepsCheck l n a r list = firstOf (matricesChecks l n a r (manyCheck list ∷ listCheck n list ∷ []))
 
@@ -81,10 +83,12 @@ pub record StepsRow : Type 0 where
 abbrev pub rowAfterRun : ℕ → ℕ → StepsRow
 rowAfterRun k m = record { told = cond (ltb k m) (told (Sum 0 k)) done; done = k }
 
+-- k of the m steps are done where the checks pass, and 11 is told where k is not m; beside another refusal none is
 abbrev pub stepsRowBy : Check → ℕ → ℕ → StepsRow
 stepsRowBy Passed k m = rowAfterRun k m
 stepsRowBy (Refused x) k m = record { told = told x; done = 0 }
 
+-- the row that the call answers: its first refusal, else the steps done and 11 where these are not all
 abbrev pub stepsRow : Language → ℕ → List ℕ → List ℕ → List ℕ → StepsRow
 stepsRow l n a r list = stepsRowBy (stepsCheck l n a r list) (doneOf (componentsOf l) n (matrixOf l n a) (matrixOf l n r) (map stepOf list)) (length list)
 
@@ -93,6 +97,7 @@ abbrev pub stepsLeftBy : Check → ℕ → Matrix → List ℕ → List ℕ
 stepsLeftBy Passed n R r = matrixWords n R
 stepsLeftBy (Refused x) n R r = r
 
+-- what the call leaves in r: the matrix after the steps that are done, or r as it was where a check refuses
 abbrev pub stepsLeft : Language → ℕ → List ℕ → List ℕ → List ℕ → List ℕ
 stepsLeft l n a r list = stepsLeftBy (stepsCheck l n a r list) n (runOf (componentsOf l) n (matrixOf l n a) (matrixOf l n r) (map stepOf list)) r
 
@@ -112,13 +117,16 @@ pub record EquationRow : Type 0 where
   pub told : Told
   pub yes : Bool
 
+-- yes or no where the checks pass; beside a refusal the field is zero, no
 abbrev pub equationRowBy : Check → Bool → EquationRow
 equationRowBy Passed b = record { told = done; yes = b }
 equationRowBy (Refused x) b = record { told = told x; yes = false }
 
+-- the row that the call answers: its first refusal, else whether R satisfies R = (A join R) best fresh
 abbrev pub equationRow : Language → ℕ → List ℕ → List ℕ → EquationRow
 equationRow l n a r = equationRowBy (equationCheck l n a r) (solves (componentsOf l) n (matrixOf l n a) (matrixOf l n r))
 
+-- what the code's answer says
 abbrev pub equationSaid : EquationAnswer → EquationRow
 equationSaid Yes = record { told = done; yes = true }
 equationSaid No = record { told = done; yes = false }

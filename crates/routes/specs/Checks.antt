@@ -34,17 +34,19 @@ nodesCheck n = unless (leb 1 n && leb n mostNodes) (Size 1 0)
 abbrev pub lengthCheck : ℕ → ℕ → List ℕ → Check
 lengthCheck which n s = unless (eqb (length s) (n * (n * weightWords))) (Length which 0)
 
--- 10: laws D and U
+-- 10: law D
 abbrev pub lawDCheck : List Component → Check
 lawDCheck cs = unless (testD cs) (Law 1 0)
 
+-- 10: law U, which is told after D
 abbrev pub lawUCheck : List Component → Check
 lawUCheck cs = unless (testU cs) (Law 2 0)
 
--- 6 on A (buffer 1), whose sums are at most 65,535, and on R (buffer 2), at most 983,025
+-- 6 on A (buffer 1), whose sums are at most 65,535
 abbrev pub arcsCheck : List Component → ℕ → List ℕ → Check
 arcsCheck cs n a = matrixCheck 1 arcSum cs n a
 
+-- 6 on R (buffer 2), whose sums are at most 983,025
 abbrev pub routesCheck : List Component → ℕ → List ℕ → Check
 routesCheck cs n r = matrixCheck 2 matrixSum cs n r
 
@@ -61,6 +63,7 @@ abbrev pub stepsFrom : ℕ → ℕ → List ℕ → Check
 stepsFrom n k [] = Passed
 stepsFrom n k (x ∷ list) = cond (isStep n x) (stepsFrom n (suc k) list) (Refused (NoSuch 0 k))
 
+-- 7: the first number of the list that is no step, by its index
 abbrev pub listCheck : ℕ → List ℕ → Check
 listCheck n list = stepsFrom n 0 list
 

@@ -1,7 +1,7 @@
 -- The refusals that the calls on A and R share, each with its case: what is wrong with n, the language, a buffer's length, the laws
 -- or an entry, and the checks that come before it in 01's order.
 -- To be believed: all of it. That the calls give each exactly in its case is histories/proofs/Cases and hops/proofs/Exact.
-use Prim.Native.Nat.{ℕ, zero, suc, _+_, _*_, _≤_, _<_}
+use Prim.Native.Nat.{ℕ, _+_, _*_, _≤_, _<_}
 use mathlib.Core.Path.{_≡_}
 use mathlib.Core.List.{List, [], _∷_, _++_}
 use mathlib.Core.Logic.{_⊎_, _↔_}
@@ -12,10 +12,10 @@ use Rattle.refusals.specs.declared.Told.{Told}
 use Rattle.refusals.specs.Told.{told}
 use Rattle.refusals.specs.Checks.{Pass}
 use Rattle.weights.specs.declared.Language.{Language}
-use Rattle.weights.specs.Sizes.{places, weightWords, arcSum, matrixSum}
+use Rattle.weights.specs.Sizes.{weightWords, arcSum, matrixSum}
 use Rattle.weights.specs.Weights.{SoundLimit}
 use Rattle.weights.specs.Laws.{LawD, LawU}
-use Rattle.weights.specs.Languages.{componentsOf, countCheck, limitCheck}
+use Rattle.weights.specs.Languages.{componentsOf, countCheck, limitCheck, CountInRange, FirstNot}
 use Rattle.matrices.specs.Buffers.{AtFirst}
 use Rattle.routes.specs.Checks.{mostNodes, firstSettle, nodesCheck, lengthCheck, lawDCheck, lawUCheck, arcsCheck, routesCheck}
 
@@ -25,10 +25,6 @@ use Rattle.routes.specs.Checks.{mostNodes, firstSettle, nodesCheck, leng
 abbrev pub NodesInRange : ℕ → Type 0
 NodesInRange n = (1 ≤ n) × (n ≤ mostNodes)
 
--- the count of components is 1..4
-abbrev pub CountInRange : Language → Type 0
-CountInRange l = (1 ≤ l .count) × (l .count ≤ places)
-
 -- the buffer has the words of n x n weights
 abbrev pub MatrixLong : ℕ → List ℕ → Type 0
 MatrixLong n s = length s ≡ n * (n * weightWords)
@@ -36,12 +32,6 @@ MatrixLong n s = length s ≡ n * (n * weightWords)
 -- a number of a step list: 0..n-1 is a row step, 256..255+n settles a column
 abbrev pub IsStep : ℕ → ℕ → Type 0
 IsStep n x = (x < n) ⊎ ((firstSettle ≤ x) × (x < firstSettle + n))
-
--- item k of the list, counted from 0, is the first that is not so
-abbrev pub FirstNot : {X : Type 0} → (X → Type 0) → ℕ → List X → Type 0
-FirstNot So k [] = ⊥
-FirstNot So zero (x ∷ xs) = So x → ⊥
-FirstNot So (suc k) (x ∷ xs) = So x × FirstNot So k xs
 
 -- ---- the checks before a refusal
 

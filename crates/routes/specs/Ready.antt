@@ -34,10 +34,12 @@ pub record Passing (l : Language) (n : ℕ) (p : Places) : Type 0 where
   pub law-D : testD (placesOf p) ≡ true
   pub law-U : testU (placesOf p) ≡ true
 
+-- what the checks of fresh give: the places of a lawful language and a buffer of the right size, or the first refusal
 abbrev pub FreshReady : Language → ℕ → List ℕ → Ready → Type 0
 FreshReady l n r (Places-given p) = (freshCheck l n r ≡ Passed) × Passing l n p × Square n r
 FreshReady l n r (Call-refused x) = freshCheck l n r ≡ Refused x
 
+-- what the checks of a call on A and R give: the places of a lawful language and two well-formed matrices, or the first refusal
 abbrev pub MatricesReady : Language → ℕ → List ℕ → List ℕ → Ready → Type 0
 MatricesReady l n a r (Places-given p) = (firstOf (matricesChecks l n a r []) ≡ Passed) × Passing l n p × Given (placesOf p) n a r
 MatricesReady l n a r (Call-refused x) = firstOf (matricesChecks l n a r []) ≡ Refused x
@@ -56,11 +58,12 @@ AllSteps n (x ∷ list) = (isStep n x ≡ true) × AllSteps n list
 unfoldable pub stepLeft : List Component → ℕ → List ℕ → List ℕ → algebra.Step → List ℕ
 stepLeft cs n a r s = matrixWords n (cond (stepFits cs n (matrixIn places n a) (matrixIn places n r) s) (step (language cs) n (matrixIn places n a) s (matrixIn places n r)) (matrixIn places n r))
 
--- the words after the steps, in order, up to the first that is refused, and how many are done
+-- the words after the steps, in order, up to the first that is refused
 unfoldable pub runLeft : List Component → ℕ → List ℕ → List ℕ → List algebra.Step → List ℕ
 runLeft cs n a r [] = r
 runLeft cs n a r (s ∷ steps) = cond (stepFits cs n (matrixIn places n a) (matrixIn places n r) s) (runLeft cs n a (stepLeft cs n a r s) steps) (stepLeft cs n a r s)
 
+-- how many of the steps are done before the first that is refused
 unfoldable pub runDone : List Component → ℕ → List ℕ → List ℕ → List algebra.Step → ℕ
 runDone cs n a r [] = 0
 runDone cs n a r (s ∷ steps) = cond (stepFits cs n (matrixIn places n a) (matrixIn places n r) s) (suc (runDone cs n a (stepLeft cs n a r s) steps)) 0

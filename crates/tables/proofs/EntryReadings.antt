@@ -21,7 +21,7 @@ use Rattle.weights.specs.Words.{allAre, fits, Reading, good, malformed, reading
 use Rattle.weights.proofs.Buffers.{four-words}
 use Rattle.tables.specs.declared.Mode.{Mode}
 use Rattle.tables.specs.Entries.{empty, mapped, largestT}
-use Rattle.tables.specs.Tables.{EntryReading, goodEntry, badEntry, isRoute, readingEntry, entryAt, tablePlace, tableIn}
+use Rattle.tables.specs.Tables.{EntryReading, goodEntry, badEntry, readsRoute, readingEntry, entryAt, tablePlace, tableIn}
 use Rattle.tables.specs.Parts.{routeRead}
 
 -- ---- five words
@@ -56,7 +56,7 @@ module _ (mode : Mode) (t : ℕ) (l : List ℕ) where
   weightRead x y = cond x (good none) (cond y (good (route l)) malformed)
 
   abbrev entryRead : Bool → Bool → EntryReading
-  entryRead x y = cond (x && eqb t ones) (goodEntry empty) (cond (isRoute (weightRead x y) && leb t (largestT mode)) (goodEntry (mapped l t)) badEntry)
+  entryRead x y = cond (x && eqb t ones) (goodEntry empty) (cond (readsRoute (weightRead x y) && leb t (largestT mode)) (goodEntry (mapped l t)) badEntry)
 
   good-one : {v w : Weight} → good v ≡ good w → v ≡ w
   good-one e = cc

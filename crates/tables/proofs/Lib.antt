@@ -12,3 +12,4 @@ pub mod TableBlocks
 pub mod MalformedEntries
 pub mod Forwarded
 pub mod PaddedTables
+pub mod Unique

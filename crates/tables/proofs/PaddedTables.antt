@@ -23,7 +23,7 @@ use Rattle.weights.proofs.Readings.{fits-pad, fits-filled, fits-valid}
 use Rattle.matrices.proofs.Malformed.{first-cong}
 use Rattle.tables.specs.declared.Mode.{Mode}
 use Rattle.tables.specs.Entries.{empty, mapped, largestT, ValidT, ValidEntry, modeOf}
-use Rattle.tables.specs.Tables.{wordsOf, goodEntry, badEntry, isRoute, readingEntry, isGoodEntry, decodedEntry, tableWords, tableIn, tablePlace, entryAt, wellFormedEntry, tableCheck, Sized, FormedTable}
+use Rattle.tables.specs.Tables.{wordsOf, goodEntry, badEntry, readsRoute, readingEntry, isGoodEntry, decodedEntry, tableWords, tableIn, tablePlace, entryAt, wellFormedEntry, tableCheck, Sized, FormedTable}
 use Rattle.tables.proofs.EntryReadings.{five-words, five-ones}
 use Rattle.tables.proofs.Rooms.{in-table, Counted, counted}
 use Rattle.tables.proofs.Padded.{padEntry, entry-words-pad, PadsTo, forwarded-pad}
@@ -35,10 +35,10 @@ module _ (cs : List Component) (h : length cs ≤ places) where
 
     -- five words that are well-formed, of which x: the weight's are ones, z: t is ones, y: the weight's fit, v: t fits
     abbrev goodWhen : List ℕ → Bool → Bool → Bool → Bool → Bool
-    goodWhen l x z y v = isGoodEntry (cond (x && z) (goodEntry empty) (cond (isRoute (cond x (good none) (cond y (good (route l)) malformed)) && v) (goodEntry (mapped l 0)) badEntry))
+    goodWhen l x z y v = isGoodEntry (cond (x && z) (goodEntry empty) (cond (readsRoute (cond x (good none) (cond y (good (route l)) malformed)) && v) (goodEntry (mapped l 0)) badEntry))
 
     good-when : (l l′ k : List ℕ) (t : ℕ) (x z y v : Bool)
-        → isGoodEntry (cond (x && z) (goodEntry empty) (cond (isRoute (cond x (good none) (cond y (good (route l′)) malformed)) && v) (goodEntry (mapped k t)) badEntry)) ≡ goodWhen l x z y v
+        → isGoodEntry (cond (x && z) (goodEntry empty) (cond (readsRoute (cond x (good none) (cond y (good (route l′)) malformed)) && v) (goodEntry (mapped k t)) badEntry)) ≡ goodWhen l x z y v
     good-when l l′ k t true true y v = refl
     good-when l l′ k t true false y v = refl
     good-when l l′ k t false z true true = refl

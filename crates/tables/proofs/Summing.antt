@@ -22,7 +22,7 @@ use Rattle.matrices.specs.Buffers.{matrixIn}
 use Rattle.matrices.proofs.Bounds.{fits-most, formed-most, most-weaken}
 use Rattle.tables.specs.declared.Mode.{Mode}
 use Rattle.tables.specs.Entries.{Entry, empty, mapped, applied, largestT, ValidT, ValidEntry, modeOf}
-use Rattle.tables.specs.Tables.{goodEntry, badEntry, isRoute, readingEntry, isGoodEntry, decodedEntry, tablePlace, tableIn, FormedTable}
+use Rattle.tables.specs.Tables.{goodEntry, badEntry, readsRoute, readingEntry, isGoodEntry, decodedEntry, tablePlace, tableIn, FormedTable}
 use Rattle.tables.specs.Parts.{weightIn, GivenTable}
 use Rattle.tables.proofs.EntryReadings.{five-words, five-ones}
 use Rattle.tables.proofs.Rooms.{in-table}
@@ -69,7 +69,7 @@ module _ (mode : Mode) (cap : ℕ) (p : Places) (big : arcSum ≤ cap) (limits :
       l = a ∷ b ∷ c ∷ d ∷ []
 
       go : (x z y : Bool) → fits cap (placesOf p) (a ∷ b ∷ c ∷ d ∷ []) ≡ y → (v : Bool) → leb t (largestT mode) ≡ v
-          → isGoodEntry (cond (x && z) (goodEntry empty) (cond (isRoute (cond x (good none) (cond y (good (route (a ∷ b ∷ c ∷ d ∷ []))) malformed)) && v) (goodEntry (mapped (a ∷ b ∷ c ∷ d ∷ []) t)) badEntry)) ≡ true
+          → isGoodEntry (cond (x && z) (goodEntry empty) (cond (readsRoute (cond x (good none) (cond y (good (route (a ∷ b ∷ c ∷ d ∷ []))) malformed)) && v) (goodEntry (mapped (a ∷ b ∷ c ∷ d ∷ []) t)) badEntry)) ≡ true
           → Entered mode cap (placesOf p) (cond (x && z) empty (mapped (a ∷ b ∷ c ∷ d ∷ []) t))
       go true true y f v g e = record { valid = tt; most = tt }
       go true false y f v g e = absurd (false≢true e)

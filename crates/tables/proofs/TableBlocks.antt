@@ -9,7 +9,7 @@ use Rattle.weights.specs.Sizes.{places, weightWords, entryWords}
 use Rattle.weights.specs.Words.{filled}
 use Rattle.matrices.proofs.Blocks.{length-blocks, blocks-at, front-at, blocks-cong}
 use Rattle.tables.specs.Entries.{Entry, empty, mapped}
-use Rattle.tables.specs.Tables.{wordsOf, rowWords, tableWords, entryAt, tablePlace, tableIn, decodedEntry}
+use Rattle.tables.specs.Tables.{wordsOf, tableRowWords, tableWords, entryAt, tablePlace, tableIn, decodedEntry}
 
 length-filled : (n : ℕ) (xs : List ℕ) → length (filled n xs) ≡ n
 length-filled zero xs = refl
@@ -21,11 +21,11 @@ unfolding wordsOf
 length-entry empty = refl
 length-entry (mapped xs t) = length-append (filled weightWords xs) (t ∷ []) ∙ omega (arith, length-filled weightWords xs)
 
-pub length-row : (m : ℕ) (g : ℕ → Entry) → length (rowWords m g) ≡ m * entryWords
+pub length-row : (m : ℕ) (g : ℕ → Entry) → length (tableRowWords m g) ≡ m * entryWords
 length-row m g = length-blocks entryWords (λ d. wordsOf (g d)) (λ d. length-entry (g d)) m
 
 pub length-table : (n m : ℕ) (M : ℕ → ℕ → Entry) → length (tableWords n m M) ≡ n * (m * entryWords)
-length-table n m M = length-blocks (m * entryWords) (λ i. rowWords m (M i)) (λ i. length-row m (M i)) n
+length-table n m M = length-blocks (m * entryWords) (λ i. tableRowWords m (M i)) (λ i. length-row m (M i)) n
 
 -- an entry written at p
 pub write-is : (s : List ℕ) (p : ℕ) (e : Entry) → p + entryWords ≤ length s → sets s p (wordsOf e) ≡ take p s ++ (wordsOf e ++ drop entryWords (drop p s))
@@ -41,7 +41,7 @@ table-cong n m M T e = blocks-cong _ _ n (λ i hi. blocks-cong _ _ m (λ d hd. e
 pub table-five : (n m : ℕ) (M : ℕ → ℕ → Entry) (i d : ℕ) → i < n → d < m → entryAt (tableWords n m M) (tablePlace m i d) ≡ wordsOf (M i d)
 table-five n m M i d hi hd =
     let l : List ℕ = drop (i * (m * entryWords)) (tableWords n m M) in
-    let e : l ≡ rowWords m (M i) ++ drop (m * entryWords) l = sym (take-append-drop (m * entryWords) l) ∙ ap (λ (k : List ℕ). k ++ drop (m * entryWords) l) (blocks-at (m * entryWords) (λ i. rowWords m (M i)) (λ i. length-row m (M i)) n i hi) in
+    let e : l ≡ tableRowWords m (M i) ++ drop (m * entryWords) l = sym (take-append-drop (m * entryWords) l) ∙ ap (λ (k : List ℕ). k ++ drop (m * entryWords) l) (blocks-at (m * entryWords) (λ i. tableRowWords m (M i)) (λ i. length-row m (M i)) n i hi) in
     ap (take entryWords) (sym (drop-drop (d * entryWords) (i * (m * entryWords)) (tableWords n m M)) ∙ ap (drop (d * entryWords)) e)
     ∙ front-at entryWords (λ d. wordsOf (M i d)) (λ d. length-entry (M i d)) m d (drop (m * entryWords) l) hd
 

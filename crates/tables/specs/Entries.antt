@@ -1,5 +1,5 @@
 -- A table's entries and the three modes (01, "Forwarding and the next hop"), over any language.
--- To be believed: all of it.
+-- To be believed: all but `entryOf`, which joins the code to the rest.
 use Prim.Native.Nat.{ℕ, _≤_}
 use mathlib.Core.Bool.{Bool, true, false, cond}
 use mathlib.Core.List.{List, [], _∷_}

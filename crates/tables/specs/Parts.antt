@@ -1,5 +1,6 @@
--- What the inner functions say and rely on, on the way to Entries and Tables.
--- They join the code to those; what has to be believed of it is `GivenTable`, which `forward_table` cites.
+-- What the inner functions say and rely on, on the way to Entries and Tables: an entry's weight, entries that win before a join is
+-- made, places in a table, what forwarding is given, and how words are read. To be believed: `weightIn`, by which `forward-sums`
+-- (forwarded/proofs/Forwards) speaks of an entry. The rest joins the code to those.
 use Prim.Native.Nat.{ℕ, _+_, _≤_, _<_}
 use mathlib.Core.Bool.{Bool, false, cond}
 use mathlib.Core.List.{List}

@@ -1,5 +1,5 @@
 -- Tables in flat buffers of words, by rows (01, "Numbers of the network"), and refusal 6 on one.
--- To be believed: all of it.
+-- To be believed: all but `entryReadOf`, which joins the code to the rest.
 use Prim.Native.Nat.{ℕ, _+_, _*_, _≤_, _<_}
 use mathlib.Core.Path.{_≡_}
 use mathlib.Core.Bool.{Bool, true, false, cond, _&&_}
@@ -30,14 +30,15 @@ wordsOf (mapped xs t) = filled weightWords xs ++ (t ∷ [])
 abbrev pub wordOfT : List ℕ → ℕ
 wordOfT ws = getD ws weightWords 0
 
-abbrev pub isRoute : Reading → Bool
-isRoute (good none) = false
-isRoute (good (route xs)) = true
-isRoute malformed = false
+-- the words of a weight stand for a route, neither no route nor malformed: a test
+abbrev pub readsRoute : Reading → Bool
+readsRoute (good none) = false
+readsRoute (good (route xs)) = true
+readsRoute malformed = false
 
 -- Whether the words of a weight and t make an entry: a route of the language with its sums at most cap, and a t of the mode.
 abbrev pub entryFits : Mode → ℕ → List Component → List ℕ → ℕ → Bool
-entryFits mode cap cs ws t = isRoute (reading cap cs ws) && leb t (largestT mode)
+entryFits mode cap cs ws t = readsRoute (reading cap cs ws) && leb t (largestT mode)
 
 -- What the words of an entry stand for.
 pub data EntryReading : Type 0 where
@@ -48,6 +49,7 @@ pub data EntryReading : Type 0 where
 abbrev pub readingEntry : Mode → ℕ → List Component → List ℕ → EntryReading
 readingEntry mode cap cs ws = cond (allAre ones ws) (goodEntry empty) (cond (entryFits mode cap cs (take weightWords ws) (wordOfT ws)) (goodEntry (mapped (take (length cs) ws) (wordOfT ws))) badEntry)
 
+-- the words of an entry are not malformed: a test
 abbrev pub isGoodEntry : EntryReading → Bool
 isGoodEntry (goodEntry e) = true
 isGoodEntry badEntry = false
@@ -64,12 +66,12 @@ decodedEntry k ws = cond (allAre ones ws) empty (mapped (take k ws) (wordOfT ws)
 -- ---- tables
 
 -- the words of a node's row, whose entry for d is g d
-abbrev pub rowWords : ℕ → (ℕ → Entry) → List ℕ
-rowWords m g = blocks m (λ d. wordsOf (g d))
+abbrev pub tableRowWords : ℕ → (ℕ → Entry) → List ℕ
+tableRowWords m g = blocks m (λ d. wordsOf (g d))
 
 -- The words of the table of n nodes and m destinations whose entry at (i, d) is M i d, by rows.
 abbrev pub tableWords : ℕ → ℕ → (ℕ → ℕ → Entry) → List ℕ
-tableWords n m M = blocks n (λ i. rowWords m (M i))
+tableWords n m M = blocks n (λ i. tableRowWords m (M i))
 
 -- where entry (i, d) of a table of m destinations begins
 abbrev pub tablePlace : ℕ → ℕ → ℕ → ℕ

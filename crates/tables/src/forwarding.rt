@@ -23,7 +23,7 @@ ghost use Rattle.weights.specs.Languages.{placesOf};
 ghost use Rattle.weights.specs.Values.{weightOf, AtMost};
 ghost use Rattle.matrices.specs.Buffers.{matrixIn};
 ghost use Rattle.tables.specs.Entries.{entryOf, applied, modeOf};
-ghost use Rattle.tables.specs.Tables.{rowWords, tableWords, tableIn, Sized};
+ghost use Rattle.tables.specs.Tables.{tableRowWords, tableWords, tableIn, Sized};
 ghost use Rattle.tables.specs.Parts.{weightIn, InTable, GivenTable};
 
 // The better of e and of x applied to the entry of k and d; what is no route is left out before the table is read.
@@ -96,7 +96,7 @@ fn forward_row(
     row: &mut [u32],
 )
     requires { ⌜ GivenTable mode (placesOf p) n m (now r) (now s) × (node .0 < n) × (m * entryWords ≤ length (now row)) ⌝ }
-    ensures { λ _. ⌜ now (row .exit) ≡ rowWords m (forwarded (language (placesOf p)) (modeOf mode (placesOf p)) n (matrixIn places n (now (r .entry))) (tableIn places m (now (s .entry))) (node .0)) ++ drop (m * entryWords) (now (row .entry)) ⌝ }
+    ensures { λ _. ⌜ now (row .exit) ≡ tableRowWords m (forwarded (language (placesOf p)) (modeOf mode (placesOf p)) n (matrixIn places n (now (r .entry))) (tableIn places m (now (s .entry))) (node .0)) ++ drop (m * entryWords) (now (row .entry)) ⌝ }
 {
     let i = node.0;
     let mut d: usize = 0;

@@ -1,5 +1,5 @@
 -- What the inner functions say on the way to Lines: weights and entries of four places, of which the language has the first.
--- They join the code to those; nothing of it has to be believed.
+-- They join the code to Lines; nothing here has to be believed.
 use Prim.Native.Nat.{ℕ}
 use lib.ListN.{take}
 use Rattle.weights.specs.Weights.{Weight, none, route}

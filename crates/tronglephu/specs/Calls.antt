@@ -1,5 +1,5 @@
--- What each exported function answers and leaves: the row of its call's own definition, in four numbers. The buffers that fresh, steps and
--- forward leave are those calls' own.
+-- What each exported function answers and leaves: the row of its call's own definition, in four numbers. The buffers that fresh,
+-- steps and forward leave are those calls' own.
 -- To be believed: all of it.
 use Prim.Native.Nat.{ℕ}
 use mathlib.Core.Bool.{cond}

@@ -10,3 +10,4 @@ pub mod Worked
 pub mod Unique
 pub mod Readings
 pub mod Sums
+pub mod Cases

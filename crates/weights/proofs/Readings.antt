@@ -14,6 +14,7 @@ use Rattle.weights.specs.declared.Component.the-variants.{Dist, Width, C
 use Rattle.weights.specs.Sizes.{weightWords, ones}
 use Rattle.weights.specs.Weights.{Weight, none, route, Valid, ValidValue, ValidValues}
 use Rattle.weights.specs.Languages.{padded}
+use Rattle.weights.specs.Written.{NotOnes, SumsUpTo, WeightUpTo, Written}
 use Rattle.weights.specs.Words.{filled, words, allAre, inRange, fits, Reading, good, malformed, reading, isGood, decoded}
 use Rattle.weights.proofs.Ordering.{clash}
 use Rattle.weights.proofs.Padding.{padWeight}
@@ -106,12 +107,6 @@ take-filled n (c ∷ cs) [] h v = absurd v
 take-filled zero (c ∷ cs) (x ∷ xs) h v = absurd (omega arith)
 take-filled (suc n) (c ∷ cs) (x ∷ xs) h v = ap (x ∷_) (take-filled n cs xs (omega arith) (v .1))
 
--- the first value, if there is one, is not the word of no route
-abbrev pub NotOnes : Weight → Type 0
-NotOnes none = Unit {0}
-NotOnes (route []) = Unit {0}
-NotOnes (route (x ∷ xs)) = x < ones
-
 not-ones : (xs : List ℕ) → NotOnes (route xs) → allAre ones (filled weightWords xs) ≡ false
 not-ones [] h = refl
 not-ones (x ∷ xs) h = rw (ne-eqb x ones (λ e. omega arith))
@@ -122,19 +117,6 @@ reads-back cs none h v k = refl
 reads-back cs (route xs) h v k = rw (not-ones xs k) (ap route (take-filled weightWords cs xs h v))
 
 -- ---- exactly the words of a weight are taken for it
-
--- the values of sums are at most cap
-abbrev pub SumsUpTo : ℕ → List Component → List ℕ → Type 0
-SumsUpTo cap [] xs = Unit {0}
-SumsUpTo cap (c ∷ cs) [] = Unit {0}
-SumsUpTo cap (Dist ∷ cs) (x ∷ xs) = (x ≤ cap) × SumsUpTo cap cs xs
-SumsUpTo cap (Width w ∷ cs) (x ∷ xs) = SumsUpTo cap cs xs
-SumsUpTo cap (Class k ∷ cs) (x ∷ xs) = SumsUpTo cap cs xs
-SumsUpTo cap (Gain ∷ cs) (x ∷ xs) = (x ≤ cap) × SumsUpTo cap cs xs
-
-abbrev pub WeightUpTo : ℕ → List Component → Weight → Type 0
-WeightUpTo cap cs none = Unit {0}
-WeightUpTo cap cs (route xs) = SumsUpTo cap cs xs
 
 fits-sums : (cap : ℕ) (cs : List Component) (ws : List ℕ) → fits cap cs ws ≡ true → SumsUpTo cap cs (take (length cs) ws)
 fits-sums cap [] ws e = tt
@@ -157,12 +139,6 @@ filled-fits cap (suc n) (Dist ∷ cs) (x ∷ xs) h v u = rw (le-leb x cap (u .0)
 filled-fits cap (suc n) (Width w ∷ cs) (x ∷ xs) h v u = rw (le-leb 1 x (v .0 .0), le-leb x w (v .0 .1)) (filled-fits cap n cs xs (omega arith) (v .1) u)
 filled-fits cap (suc n) (Class k ∷ cs) (x ∷ xs) h v u = rw (le-leb x k (v .0)) (filled-fits cap n cs xs (omega arith) (v .1) u)
 filled-fits cap (suc n) (Gain ∷ cs) (x ∷ xs) h v u = rw (le-leb x cap (u .0)) (filled-fits cap n cs xs (omega arith) (v .1) (u .1))
-
--- w is a weight of the language with sums at most cap, and its first value is not the word of no route
-pub record Written (cap : ℕ) (cs : List Component) (w : Weight) : Type 0 where
-  pub valid : Valid cs w
-  pub sums : WeightUpTo cap cs w
-  pub apart : NotOnes w
 
 -- the words of a weight are read as that weight
 pub reads-words : (cap : ℕ) (cs : List Component) (w : Weight) → length cs ≤ weightWords → Written cap cs w → reading cap cs (words w) ≡ good w

@@ -1,4 +1,4 @@
--- What the first values alone tell of a join: it joins the code to `betterOf`, nothing here has to be believed.
+-- What the first values alone tell of a join. They join the code to `betterOf`; nothing here has to be believed.
 use Prim.Native.Nat.{ℕ}
 use mathlib.Core.Bool.{Bool, false}
 use mathlib.Core.List.{List, [], _∷_}

@@ -1,5 +1,5 @@
 -- What the code's languages mean, and the checks of a language (refusals 5 and 4).
--- To be believed: all of it.
+-- To be believed: all but `placesOf` and `CheckSays`, which join the code to the rest.
 use Prim.Native.Nat.{ℕ, zero, suc, _≤_}
 use mathlib.Core.Path.{_≡_}
 use mathlib.Core.Bool.{Bool, true, cond, _&&_}
@@ -28,6 +28,10 @@ componentsOf l = take (l .count) (l .first ∷ l .second ∷ l .third ∷ l .fou
 abbrev pub countCheck : Language → Check
 countCheck l = unless (leb 1 (l .count) && leb (l .count) places) (BadCount 0 0)
 
+-- .. in words
+abbrev pub CountInRange : Language → Type 0
+CountInRange l = (1 ≤ l .count) × (l .count ≤ places)
+
 -- width has a limit from 1: a test
 abbrev pub soundLimit : Component → Bool
 soundLimit Dist = true
@@ -40,8 +44,15 @@ abbrev pub limitsFrom : ℕ → List Component → Check
 limitsFrom i [] = Passed
 limitsFrom i (c ∷ cs) = cond (soundLimit c) (limitsFrom (suc i) cs) (Refused (BadComponent 0 i))
 
+-- refusal 4 of a language: of the components that count, the first with a width limit 0
 abbrev pub limitCheck : Language → Check
 limitCheck l = limitsFrom 0 (componentsOf l)
+
+-- item k of the list, counted from 0, is the first that is not so
+abbrev pub FirstNot : {X : Type 0} → (X → Type 0) → ℕ → List X → Type 0
+FirstNot So k [] = ⊥
+FirstNot So zero (x ∷ xs) = So x → ⊥
+FirstNot So (suc k) (x ∷ xs) = So x × FirstNot So k xs
 
 -- ---- the places that code works on
 
@@ -51,16 +62,18 @@ padded zero cs = []
 padded (suc n) [] = Class 0 ∷ padded n []
 padded (suc n) (c ∷ cs) = c ∷ padded n cs
 
+-- the four places that the code works on, as a list of components
 abbrev pub placesOf : Places → List Component
 placesOf p = p .first ∷ p .second ∷ p .third ∷ p .fourth ∷ []
 
--- the limits are at most n
+-- a width's or a class's limit is at most n
 abbrev pub SmallLimit : ℕ → Component → Type 0
 SmallLimit n Dist = Unit {0}
 SmallLimit n (Width w) = w ≤ n
 SmallLimit n (Class c) = c ≤ n
 SmallLimit n Gain = Unit {0}
 
+-- every limit of the components is at most n
 abbrev pub SmallLimits : ℕ → List Component → Type 0
 SmallLimits n [] = Unit {0}
 SmallLimits n (c ∷ cs) = SmallLimit n c × SmallLimits n cs

@@ -1,5 +1,6 @@
 -- The three laws (01, "The three laws") over all weights of a language, the tests that decide them, and the weights that break one.
--- To be believed: `LawD`, `LawU`, `LawC` and the witnesses. That the tests decide the laws, and that the witnesses break them, are theorems (proofs/Decided).
+-- To be believed: `LawD`, `LawU`, `LawC`, `BreaksD`, `BreaksU`, `BreaksC` and the witnesses. That the tests decide the laws, and
+-- that the witnesses break them, are theorems (proofs/Decided).
 use Prim.Native.Nat.{ℕ}
 use mathlib.Core.Path.{_≡_}
 use mathlib.Core.Bool.{Bool, true, false, not, cond, _&&_, _||_}
@@ -24,6 +25,7 @@ LawC cs = (s x y : Weight) → Valid cs s → Valid cs x → Valid cs y → join
 
 -- ---- the tests
 
+-- any component but width 1 and class 0, which have a single value
 abbrev pub nonTrivial : Component → Bool
 nonTrivial c = not (trivial c)
 
@@ -34,6 +36,7 @@ lossy (Width w) = nonTrivial (Width w)
 lossy (Class c) = nonTrivial (Class c)
 lossy Gain = false
 
+-- the one kind with values better than its unit, which law U forbids
 abbrev pub isGain : Component → Bool
 isGain Dist = false
 isGain (Width w) = false
@@ -49,14 +52,17 @@ someNonTrivial (c ∷ cs) = nonTrivial c || someNonTrivial cs
 abbrev pub lossyBefore : Component → List Component → Bool
 lossyBefore c cs = lossy c && someNonTrivial cs
 
+-- no non-trivial width or class has a later non-trivial component: decides law D
 abbrev pub testD : List Component → Bool
 testD [] = true
 testD (c ∷ cs) = not (lossyBefore c cs) && testD cs
 
+-- no component is a gain: decides law U
 abbrev pub testU : List Component → Bool
 testU [] = true
 testU (c ∷ cs) = not (isGain c) && testU cs
 
+-- no component is a non-trivial width or class: decides law C
 abbrev pub testC : List Component → Bool
 testC [] = true
 testC (c ∷ cs) = not (lossy c) && testC cs
@@ -114,11 +120,14 @@ sC cs = atFirst lossy worst cs
 
 -- ---- weights that break a law
 
+-- s, x and y are weights of the language for which law D's equation fails
 abbrev pub BreaksD : List Component → Weight → Weight → Weight → Type 0
 BreaksD cs s x y = Valid cs s × Valid cs x × Valid cs y × (join cs s (betterOf cs x y) ≡ betterOf cs (join cs s x) (join cs s y) → ⊥)
 
+-- x is a weight of the language that is better than the unit
 abbrev pub BreaksU : List Component → Weight → Type 0
 BreaksU cs x = Valid cs x × (better cs x (unit cs) ≡ true)
 
+-- s joined x equals s joined y and is a route, and yet x and y differ; all are weights of the language
 abbrev pub BreaksC : List Component → Weight → Weight → Weight → Type 0
 BreaksC cs s x y = Valid cs s × Valid cs x × Valid cs y × (join cs s x ≡ join cs s y) × IsRoute (join cs s x) × (x ≡ y → ⊥)

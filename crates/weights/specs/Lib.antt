@@ -6,3 +6,4 @@ pub mod Values
 pub mod Gains
 pub mod Words
 pub mod Sums
+pub mod Written

@@ -1,5 +1,5 @@
 -- A weight of the code: its values, how large they are, and how two of them compare.
--- To be believed: all of it.
+-- To be believed: `same` and `sameValues`. The rest joins the code's weights to Weights.
 use Prim.Native.Nat.{ℕ, _≤_}
 use mathlib.Core.Bool.{Bool, true, false, cond, _&&_}
 use mathlib.Core.List.{List, [], _∷_}
@@ -13,6 +13,7 @@ use Rattle.weights.specs.Weights.{Weight, none, route, better}
 
 -- ---- a weight of the code, a value for each place
 
+-- the weight that the code's stands for: four values, or no route
 abbrev pub weightOf : declared.Weight → Weight
 weightOf (Route a b c d) = route (a ∷ b ∷ c ∷ d ∷ [])
 weightOf NoRoute = none
@@ -22,6 +23,7 @@ abbrev pub AllAtMost : ℕ → List ℕ → Type 0
 AllAtMost n [] = Unit {0}
 AllAtMost n (x ∷ xs) = (x ≤ n) × AllAtMost n xs
 
+-- every value of a route is at most n; of no route nothing is said
 abbrev pub AtMost : ℕ → Weight → Type 0
 AtMost n none = Unit {0}
 AtMost n (route xs) = AllAtMost n xs
@@ -37,13 +39,14 @@ isRoute (route xs) = true
 abbrev pub compared : List Component → Weight → Weight → Comparison
 compared cs x y = cond (better cs x y) Better (cond (better cs y x) Worse Equal)
 
--- the two weights are the same: a test
+-- the two lists have the same values, and as many: a test
 abbrev pub sameValues : List ℕ → List ℕ → Bool
 sameValues [] [] = true
 sameValues [] (y ∷ ys) = false
 sameValues (x ∷ xs) [] = false
 sameValues (x ∷ xs) (y ∷ ys) = eqb x y && sameValues xs ys
 
+-- the two weights are the same, no route or values: a test
 abbrev pub same : Weight → Weight → Bool
 same none none = true
 same none (route ys) = false

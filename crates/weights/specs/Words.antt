@@ -1,5 +1,5 @@
--- A weight in a buffer: its words, and what words stand for (01, "Weights": unused words 0, no route all ones, other patterns malformed).
--- To be believed: all of it.
+-- A weight in a buffer: its words, and what words stand for (01, "Weights").
+-- To be believed: all but `readOf`, which joins the code to the rest.
 use Prim.Native.Nat.{ℕ, zero, suc}
 use mathlib.Core.Bool.{Bool, true, false, cond, _&&_}
 use mathlib.Core.List.{List, [], _∷_}
@@ -51,6 +51,7 @@ pub data Reading : Type 0 where
 abbrev pub reading : ℕ → List Component → List ℕ → Reading
 reading cap cs ws = cond (allAre ones ws) (good none) (cond (fits cap cs ws) (good (route (take (length cs) ws))) malformed)
 
+-- the words are not malformed: a test
 abbrev pub isGood : Reading → Bool
 isGood (good w) = true
 isGood malformed = false

@@ -22,6 +22,7 @@ use Rattle.weights.proofs.Languages.{lawful}
 use Rattle.weights.proofs.Worked as weights
 use Rattle.matrices.specs.Buffers.{blocks, cell, firstMalformed}
 use Rattle.matrices.specs.Steps.{Matrix, every, solves}
+use Rattle.matrices.proofs.Every.{solves-exactly}
 use Rattle.tables.specs.declared.Mode.the-variants.{Hot}
 use Rattle.tables.specs.Entries.{mapped, modeOf}
 use Rattle.tables.specs.Tables.{tableIn}
@@ -139,6 +140,6 @@ proved-together = record {
   P5 = (reads .0, swept, λ i j hi hj. subst (Best (language distance) 3 arcs i j) (computed i j hi hj) (best-is printed i j hi));
   P6 = (reads .1, refl, hot);
   P7 = subst (Best (language distance) 1 alone 0 0) fresh-is-best (best-is one 0 0 (omega arith));
-  P8 = (balances, subst (Best (language wide) 3 depotArcs 0 2) no-way (best-is depots 0 2 (omega arith)));
+  P8 = (solves-exactly wide 3 depotArcs depotRoutes .0 balances, subst (Best (language wide) 3 depotArcs 0 2) no-way (best-is depots 0 2 (omega arith)));
   P9 = steps;
 }

@@ -2,13 +2,12 @@
 -- To be believed: all of it, beside 01's own lines. That it holds is the theorem `proved-together` (proofs/Proved).
 use Prim.Native.Nat.{ℕ, _+_, _*_, _<_}
 use mathlib.Core.Path.{_≡_}
-use mathlib.Core.Bool.{true}
 use mathlib.Core.List.{List, [], _∷_}
 use lib.ListN.{length, replicate}
 use Rattle.refusals.specs.declared.Refusal.the-variants.{NoSuch}
 use Rattle.refusals.specs.Told.{told, done}
 use Rattle.algebra.specs.Best.{Best}
-use Rattle.algebra.specs.Step.{fresh, reached, sweeps}
+use Rattle.algebra.specs.Step.{Solves, fresh, reached, sweeps}
 use Rattle.algebra.specs.Modes.{forwarded}
 use Rattle.weights.specs.declared.Component.{Component}
 use Rattle.weights.specs.declared.Component.the-variants.{Dist, Width, Gain}
@@ -17,7 +16,7 @@ use Rattle.weights.specs.Sizes.{weightWords, ones}
 use Rattle.weights.specs.Weights.{none, route, language}
 use Rattle.weights.specs.Laws.{LawD, LawU, LawC, BreaksD, BreaksU}
 use Rattle.weights.specs.Languages.{componentsOf}
-use Rattle.matrices.specs.Steps.{Matrix, solves}
+use Rattle.matrices.specs.Steps.{Matrix}
 use Rattle.tables.specs.declared.Mode.the-variants.{Hot}
 use Rattle.tables.specs.declared.Chosen.the-variants.{Fits}
 use Rattle.tables.specs.Entries.{Entry, mapped, modeOf, modeFor}
@@ -101,6 +100,6 @@ pub record ProvedTogether : Type 0 where
   -- (P7) n = 1 with self-arc 5: fresh is best
   pub P7 : Best (language distance) 1 (written ((route (5 ∷ []) ∷ []) ∷ [])) 0 0 (fresh (language distance) 0 0)
   -- (P8) width 10, the two depots: the matrix satisfies the equation, yet the best from 0 to 2 is no route
-  pub P8 : (solves (Width 10 ∷ []) 3 depotArcs depotRoutes ≡ true) × Best (language (Width 10 ∷ [])) 3 depotArcs 0 2 none
+  pub P8 : Solves (language (Width 10 ∷ [])) 3 depotArcs depotRoutes × Best (language (Width 10 ∷ [])) 3 depotArcs 0 2 none
   -- (P9) step 15 with n = 16 runs, step 16 is refused
   pub P9 : (oneStep 15 ≡ record { told = done; done = 1 }) × (oneStep 16 ≡ record { told = told (NoSuch 0 0); done = 0 })

@@ -10,7 +10,7 @@ use Rattle.weights.specs.Sizes.{places, entryWords}
 use Rattle.weights.specs.declared.Places.{Places}
 use Rattle.matrices.specs.Buffers.{matrixIn}
 use Rattle.matrices.proofs.Blocks.{Filled, filled-none, filled-lent, filled-all, lent-part}
-use Rattle.tables.specs.Tables.{rowWords, tableIn}
+use Rattle.tables.specs.Tables.{tableRowWords, tableIn}
 use Rattle.tables.specs.Entries.{modeOf}
 use Rattle.tables.specs.declared.Mode.{Mode}
 use Rattle.tables.proofs.TableBlocks.{length-row}
@@ -19,7 +19,7 @@ use Rattle.tables.proofs.forwarding.forward_table.Statement.{statement}
 use Rattle.tables.proofs.forwarding.forward_table.Tie as tie
 
 abbrev row : Places → Mode → ℕ → ℕ → List ℕ → List ℕ → ℕ → List ℕ
-row p mode n m r s i = rowWords m (forwarded (language (placesOf p)) (modeOf mode (placesOf p)) n (matrixIn places n r) (tableIn places m s) i)
+row p mode n m r s i = tableRowWords m (forwarded (language (placesOf p)) (modeOf mode (placesOf p)) n (matrixIn places n r) (tableIn places m s) i)
 
 abbrev Inv-loop : tie.InvT-loop
 Inv-loop p mode n m r s f₀ i₀ f i = (i ≤ n) × Filled (m * entryWords) (row p mode n m r s) f₀ i f
