@@ -72,6 +72,7 @@ SumOver [] xs = ⊥
 SumOver (c ∷ cs) [] = ⊥
 SumOver (c ∷ cs) (x ∷ xs) = (IsSum c × (matrixSum < x)) ⊎ SumOver cs xs
 
+-- some sum of a weight is above 983,025; no route has none
 abbrev pub WeightOver : List Component → Weight → Type 0
 WeightOver cs none = ⊥
 WeightOver cs (route xs) = SumOver cs xs
