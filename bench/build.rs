@@ -4,20 +4,27 @@
 use std::path::{Path, PathBuf};
 use std::{env, fs, process};
 
-const CRATES: [&str; 14] = [
+const CRATES: [&str; 21] = [
     "refusals",
     "numbers",
     "weights",
+    "words",
     "laws",
     "matrices",
+    "modes",
+    "rows",
     "columns",
+    "holding",
     "tables",
     "routes",
+    "steps",
     "forwarding",
     "hops",
     "handover",
+    "bytes",
     "fields",
     "records",
+    "contents",
     "files",
 ];
 

@@ -158,7 +158,7 @@ impl Bench {
             Work::Sweeps | Work::Settle => {
                 let r = &mut self.written[..square];
                 r.copy_from_slice(&self.fresh);
-                match equal::routes::steps::steps(self.equal, self.n, &self.arcs, r, &self.list) {
+                match equal::steps::steps(self.equal, self.n, &self.arcs, r, &self.list) {
                     equal::routes::StepsAnswer::Done(count) => count,
                     equal::routes::StepsAnswer::Refused { .. } => 0,
                 }

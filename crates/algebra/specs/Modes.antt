@@ -1,6 +1,6 @@
 -- What a mode of forwarding is, the forwarding sum (002, equation 3) and the forwarding equation.
 -- To be believed: all of it. `SemiModule` is what the theorems ask of a mode; that the three modes have it is proved where modes
--- are defined (tables/proofs/SemiModules).
+-- are defined (modes/proofs/SemiModules).
 use Prim.Native.Nat.{ℕ, _<_}
 use mathlib.Core.Path.{_≡_}
 use mathlib.Core.Bool.{false}

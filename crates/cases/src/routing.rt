@@ -64,7 +64,7 @@ fn steps_done(answer: StepsAnswer) -> u32 {
 
 // Runs the list, and sends the answer and the matrix.
 fn steps(l: Language, n: u32, a: &[u32], r: &mut [u32], list: &[u32]) {
-    let answer = routes::steps::steps(l, n, a, r, list);
+    let answer = steps::steps(l, n, a, r, list);
     let values = [steps_done(answer)];
     respond(steps_told(answer), &values, r);
 }

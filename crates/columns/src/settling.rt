@@ -33,7 +33,7 @@ fn take_entry(p: Places, w: Weight, x: Weight, col: &[u32], at: usize) -> Weight
     else {
         return w;
     };
-    let y = weights::words::weight_at(col, at);
+    let y = words::weight_at(col, at);
     if weights::gaining::loses(p, w, x, y) {
         return w;
     }
@@ -50,7 +50,7 @@ fn renew(p: Places, n: usize, a: &[u32], i: usize, j: usize, col: &[u32]) -> Wei
     let mut w = matrices::fresh::fresh_weight(p, i, j);
     let mut k: usize = 0;
     while k < n {
-        let x = weights::words::weight_at(a, from + k * WEIGHT_WORDS);
+        let x = words::weight_at(a, from + k * WEIGHT_WORDS);
         w = take_entry(p, w, x, col, k * WEIGHT_WORDS);
         k += 1;
     }
@@ -63,11 +63,11 @@ fn put(col: &mut [u32], at: usize, w: Weight) -> bool
     ensures { λ changed. ⌜ (changed ≡ false → now (col .exit) ≡ now (col .entry)) ⌝ }
     ensures { λ _. ⌜ now (col .exit) ≡ take at (now (col .entry)) ++ (words (weightOf w) ++ drop weightWords (drop at (now (col .entry)))) ⌝ }
 {
-    let old = weights::words::weight_at(col, at);
+    let old = words::weight_at(col, at);
     if weights::comparing::same(w, old) {
         return false;
     }
-    weights::words::write_at(col, at, w);
+    words::write_at(col, at, w);
     true
 }
 
@@ -111,8 +111,8 @@ fn write_column(n: usize, j: usize, col: &[u32], r: &mut [u32])
 {
     let mut i: usize = 0;
     while i < n {
-        let w = weights::words::weight_at(col, i * WEIGHT_WORDS);
-        weights::words::write_at(r, i * (n * WEIGHT_WORDS) + j * WEIGHT_WORDS, w);
+        let w = words::weight_at(col, i * WEIGHT_WORDS);
+        words::write_at(r, i * (n * WEIGHT_WORDS) + j * WEIGHT_WORDS, w);
         i += 1;
     }
 }

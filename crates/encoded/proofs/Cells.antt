@@ -8,7 +8,7 @@ use native.Mathlib.Omega.{arith}
 use lib.ListN.{length, take, drop}
 use lib.Seq.{drop-drop, drop-at, take-at}
 use Rattle.matrices.specs.Buffers.{blocks}
-use Rattle.files.specs.Contents.{grid}
+use Rattle.contents.specs.Contents.{grid}
 use Rattle.matrices.proofs.Blocks.{length-blocks}
 
 -- from an offset on stands x

@@ -16,9 +16,9 @@ use Rattle.weights.specs.Words.{words}
 use Rattle.fields.specs.declared.Head.{Head}
 use Rattle.records.specs.declared.Listing.{Listing}
 use Rattle.records.specs.declared.Listing.the-variants.{Arcs, Attachments}
-use Rattle.fields.specs.Bytes.{twoAt}
+use Rattle.bytes.specs.Bytes.{twoAt}
 use Rattle.records.specs.Records.{recordLength, lengthOf, endsAt, endsCheck, valuesCheck, recordCheck, recordsCheck, recordListCheck, listEnd}
-use Rattle.files.specs.Contents.{columns, valuesAt, outsideAt, withOutside, recordWords, rowOfEnds, columnOfEnds, isAt, listedWords}
+use Rattle.contents.specs.Contents.{columns, valuesAt, outsideAt, withOutside, recordWords, rowOfEnds, columnOfEnds, isAt, listedWords}
 use Rattle.encoded.specs.Encode.{ListEntry, SoundValues, SoundOutside, SoundEntry, SoundEntries, bytes2, valueBytes, outsideBytes, entryBytes, entriesBytes, listBytes, put}
 use Rattle.encoded.proofs.Here.{here, past, within, two-here}
 

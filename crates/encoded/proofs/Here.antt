@@ -16,7 +16,7 @@ use Rattle.weights.specs.Languages.{componentsOf}
 use Rattle.fields.specs.declared.Found.{Found}
 use Rattle.fields.specs.declared.LanguageRead.{LanguageRead}
 use Rattle.fields.specs.declared.LanguageRead.the-variants.{Taken}
-use Rattle.fields.specs.Bytes.{twoAt}
+use Rattle.bytes.specs.Bytes.{twoAt}
 use Rattle.fields.specs.Nested.{noLanguage, added, nothing, withComponent, withTag, distTag, widthTag, classTag, gainTag, productTag, componentRead, after, languageAt}
 use Rattle.fields.proofs.Advancing.{read-product, read-component}
 use Rattle.encoded.specs.Encode.{Nesting, one, product, nested, bytes2, componentBytes, languageBytes, languageWith}

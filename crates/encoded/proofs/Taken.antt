@@ -22,13 +22,13 @@ use Rattle.fields.specs.declared.Head.{Head}
 use Rattle.fields.specs.declared.HeadRead.{HeadRead}
 use Rattle.fields.specs.declared.HeadRead.the-variants.{Sound, Refused as Faulty}
 use Rattle.records.specs.declared.Listing.the-variants.{Arcs, Attachments}
-use Rattle.fields.specs.Bytes.{twoAt, fourAt}
+use Rattle.bytes.specs.Bytes.{twoAt, fourAt}
 use Rattle.fields.specs.Nested.{nothing, languageAt}
 use Rattle.fields.specs.Header.{fieldCheck, modeFieldCheck, fieldsCheck, headFrom, headRead}
 use Rattle.records.specs.Records.{recordListCheck, listEnd, bodyCheck}
 use Rattle.files.specs.File.{countRight, headOnceChecked, withBody, fileRead}
 use Rattle.fields.proofs.Passing.{both-pass, unless-passes, and-both, field-passes}
-use Rattle.files.proofs.Storing.{checked-body}
+use Rattle.files.proofs.Bodies.{checked-body}
 use Rattle.encoded.specs.Encode.{Problem, SoundEntries, Nesting, nested, bytes2, languageBytes, listBytes, bodyBytes, encode, languageWith}
 use Rattle.encoded.specs.Taken.{AreBytes, Encoded}
 use Rattle.encoded.proofs.Here.{found-language, language-has, one-more-component}

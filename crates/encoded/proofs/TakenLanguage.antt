@@ -18,7 +18,7 @@ use Rattle.weights.specs.Languages.{SmallLimit, SmallLimits}
 use Rattle.fields.specs.declared.Found.{Found}
 use Rattle.fields.specs.declared.LanguageRead.{LanguageRead}
 use Rattle.fields.specs.declared.LanguageRead.the-variants.{Taken, Refused}
-use Rattle.fields.specs.Bytes.{twoAt}
+use Rattle.bytes.specs.Bytes.{twoAt}
 use Rattle.fields.specs.Nested.{withComponent, withTag, distTag, widthTag, classTag, gainTag, productTag, componentRead, after, languageFrom}
 use Rattle.fields.proofs.Advancing.{by-test}
 use Rattle.encoded.specs.Encode.{Nesting, one, product, nested, bytes2, componentBytes, languageBytes}

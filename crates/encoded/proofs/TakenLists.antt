@@ -18,9 +18,9 @@ use Rattle.weights.specs.Words.{inRange}
 use Rattle.fields.specs.declared.Head.{Head}
 use Rattle.records.specs.declared.Listing.{Listing}
 use Rattle.records.specs.declared.Listing.the-variants.{Arcs, Attachments}
-use Rattle.fields.specs.Bytes.{twoAt}
+use Rattle.bytes.specs.Bytes.{twoAt}
 use Rattle.records.specs.Records.{recordLength, lengthOf, endsAt, endsCheck, valuesCheck, recordCheck, recordsCheck, recordListCheck, listEnd}
-use Rattle.files.specs.Contents.{columns, valuesAt, outsideAt}
+use Rattle.contents.specs.Contents.{columns, valuesAt, outsideAt}
 use Rattle.records.specs.Parts.{InRange}
 use Rattle.fields.proofs.Passing.{both-pass, unless-passes}
 use Rattle.records.proofs.Listed.{record-ends}

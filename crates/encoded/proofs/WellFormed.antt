@@ -29,13 +29,14 @@ use Rattle.fields.specs.declared.HeadRead.the-variants.{Sound, Refused as Fault
 use Rattle.records.specs.declared.Listing.{Listing}
 use Rattle.records.specs.declared.Listing.the-variants.{Arcs, Attachments}
 use Rattle.files.specs.declared.ReadAnswer.the-variants.{Done}
-use Rattle.fields.specs.Bytes.{twoAt}
+use Rattle.bytes.specs.Bytes.{twoAt}
 use Rattle.records.specs.Records.{lengthOf, endsAt, endsCheck, valuesCheck, recordCheck, recordsCheck, recordListCheck, listEnd, bodyCheck}
 use Rattle.files.specs.File.{fileRead}
-use Rattle.files.specs.Contents.{wordsEach, columns, sizeOf, valuesAt, recordWeight, outsideAt, recordWords, isAt, listedWords, listedTable, listOver}
+use Rattle.contents.specs.Contents.{wordsEach, columns, sizeOf, valuesAt, recordWeight, outsideAt, recordWords, isAt, listedWords, listedTable, listOver}
 use Rattle.files.specs.Answers.{Row, readSaid, headRow, refusedRow, sized, arcsOver, mappingOver, ReadSays}
 use Rattle.fields.proofs.Passing.{both-pass, and-both}
-use Rattle.files.proofs.Storing.{listed-wide, checked-body}
+use Rattle.contents.proofs.Storing.{listed-wide}
+use Rattle.files.proofs.Bodies.{checked-body}
 use Rattle.encoded.specs.Encode.{SoundValues, SoundOutside}
 use Rattle.encoded.specs.Taken.{AreBytes, Encoded, DoneMeans}
 use Rattle.encoded.specs.WellFormed.{EntryWell, empty, attached, WellFormed}

@@ -19,12 +19,12 @@ use Rattle.records.specs.declared.Listing.{Listing}
 use Rattle.records.specs.declared.Listing.the-variants.{Arcs, Attachments}
 use Rattle.files.specs.declared.ReadAnswer.{ReadAnswer}
 use Rattle.files.specs.declared.ReadAnswer.the-variants.{Done}
-use Rattle.fields.specs.Bytes.{twoAt, fourAt}
+use Rattle.bytes.specs.Bytes.{twoAt, fourAt}
 use Rattle.fields.specs.Nested.{nothing}
 use Rattle.fields.specs.Header.{fieldCheck, modeFieldCheck, fieldsCheck, headRead}
 use Rattle.records.specs.Records.{lengthOf, listEnd, bodyCheck}
 use Rattle.files.specs.File.{countRight, fileRead}
-use Rattle.files.specs.Contents.{columns, sizeOf, unlisted, listedWords, listedTable}
+use Rattle.contents.specs.Contents.{columns, sizeOf, unlisted, listedWords, listedTable}
 use Rattle.files.specs.Answers.{sized, ReadSays}
 use Rattle.matrices.proofs.Blocks.{blocks-cong}
 use Rattle.files.proofs.Answering.{answer-one}

@@ -6,13 +6,13 @@ use Rattle.weights.specs.Sizes.{weightWords, entryWords, ones}
 use Rattle.weights.specs.Words.{words}
 use Rattle.fields.specs.declared.HeadRead.the-variants.{Sound}
 use Rattle.records.specs.declared.Listing.the-variants.{Arcs, Attachments}
-use Rattle.fields.specs.Bytes.{twoAt}
+use Rattle.bytes.specs.Bytes.{twoAt}
 use Rattle.fields.specs.Nested.{added, componentRead, languageFrom}
 use Rattle.fields.specs.Header.{fieldCheck, fieldsCheck, headRead}
 use Rattle.records.specs.Records.{recordLength, endsCheck, valuesCheck, recordCheck, recordsCheck, recordListCheck, listEnd, bodyCheck}
 use Rattle.files.specs.File.{fileRead}
 use Rattle.matrices.specs.Buffers.{blocks}
-use Rattle.files.specs.Contents.{outsideAt, listedWords, listedTable}
+use Rattle.contents.specs.Contents.{outsideAt, listedWords, listedTable}
 use Rattle.files.specs.PrintedFile.{printedFile, printedHead}
 
 pub printed-read : fileRead (printedFile 3) ≡ Sound 9 (printedHead 3)

@@ -17,7 +17,7 @@ use Rattle.fields.specs.declared.Head.{Head}
 use Rattle.records.specs.declared.Listing.{Listing}
 use Rattle.records.specs.declared.Listing.the-variants.{Arcs, Attachments}
 use Rattle.fields.specs.Nested.{distTag, widthTag, classTag, gainTag, productTag, languageOfPlaces}
-use Rattle.files.specs.Contents.{columns, grid, withOutside, unlisted}
+use Rattle.contents.specs.Contents.{columns, grid, withOutside, unlisted}
 
 -- ---- problems
 

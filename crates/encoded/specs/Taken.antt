@@ -11,11 +11,11 @@ use Rattle.fields.specs.declared.Found.{Found}
 use Rattle.fields.specs.declared.Head.{Head}
 use Rattle.fields.specs.declared.HeadRead.the-variants.{Sound}
 use Rattle.records.specs.declared.Listing.the-variants.{Arcs, Attachments}
-use Rattle.fields.specs.Bytes.{twoAt}
+use Rattle.bytes.specs.Bytes.{twoAt}
 use Rattle.fields.specs.Nested.{withComponent, withTag}
 use Rattle.records.specs.Records.{listEnd}
 use Rattle.files.specs.File.{fileRead}
-use Rattle.files.specs.Contents.{listedTable, listOver}
+use Rattle.contents.specs.Contents.{listedTable, listOver}
 use Rattle.encoded.specs.Encode.{Problem, SoundProblem, Nesting, one, product, nested, languageBytes, encode, headOf, encodedTable}
 
 -- every element is a byte

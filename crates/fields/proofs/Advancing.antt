@@ -14,7 +14,7 @@ use Rattle.weights.specs.Sizes.{productTags}
 use Rattle.fields.specs.declared.Found.{Found}
 use Rattle.fields.specs.declared.LanguageRead.{LanguageRead}
 use Rattle.fields.specs.declared.LanguageRead.the-variants.{Taken, Refused}
-use Rattle.fields.specs.Bytes.{twoAt}
+use Rattle.bytes.specs.Bytes.{twoAt}
 use Rattle.fields.specs.Nested.{added, withComponent, withTag, distTag, widthTag, classTag, gainTag, productTag, componentRead, after, languageFrom, languageAt}
 use Rattle.fields.specs.Parts.{Onward, Advances}
 

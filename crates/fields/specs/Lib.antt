@@ -1,4 +1,3 @@
-pub mod Bytes
 pub mod Nested
 pub mod Fuel
 pub mod Header

@@ -13,7 +13,7 @@ use Rattle.weights.specs.Sizes.{productTags}
 use Rattle.fields.specs.declared.Found.{Found}
 use Rattle.fields.specs.declared.LanguageRead.{LanguageRead}
 use Rattle.fields.specs.declared.LanguageRead.the-variants.{Taken, Refused}
-use Rattle.fields.specs.Bytes.{twoAt}
+use Rattle.bytes.specs.Bytes.{twoAt}
 
 -- ---- the tags
 

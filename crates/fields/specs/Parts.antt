@@ -1,6 +1,5 @@
--- What the inner functions say and rely on, on the way to Nested and Header: offsets that fit their type, how far a reading has
--- come, and how large the numbers of a head are.
--- They join the code to those; nothing here has to be believed.
+-- What the inner functions say and rely on, on the way to Nested and Header: how far a reading has come, and how large the numbers
+-- of a head are. They join the code to those; nothing here has to be believed.
 use Prim.Native.Nat.{ℕ, _+_, _*_, _≤_, _<_}
 use mathlib.Core.Path.{_≡_}
 use mathlib.Core.List.{List}
@@ -12,16 +11,6 @@ use Rattle.fields.specs.declared.LanguageRead.the-variants.{Taken, Refus
 use Rattle.fields.specs.declared.Head.{Head}
 use Rattle.fields.specs.declared.HeadRead.{HeadRead}
 use Rattle.fields.specs.declared.HeadRead.the-variants.{Sound, Refused as Faulty}
-
--- ---- offsets: two lists of at most 65,535 records lie below two million
-
--- an offset of a byte
-abbrev pub Near : ℕ → Type 0
-Near at = at ≤ 2000000
-
--- an offset of a record
-abbrev pub Reached : ℕ → Type 0
-Reached at = at ≤ 1800000
 
 -- ---- the language
 

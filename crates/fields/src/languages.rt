@@ -1,7 +1,7 @@
 // A language in the file: one component, or two languages under a product, nested.
 use super::Found;
 use super::LanguageRead;
-use super::bytes::limit;
+use bytes::limit;
 use refusals::Refusal;
 use weights::Component;
 use weights::Language;
@@ -11,7 +11,8 @@ ghost use Prim.Native.Nat.{_<_, _≤_};
 ghost use lib.ListN.{length};
 ghost use Rattle.weights.specs.Sizes.{places, productTags};
 ghost use Rattle.fields.specs.Nested.{languageOfPlaces, added, withComponent, withTag, widthRead, classRead, componentRead, languageAt};
-ghost use Rattle.fields.specs.Parts.{Reached, LanguageBegins, Advances};
+ghost use Rattle.fields.specs.Parts.{LanguageBegins, Advances};
+ghost use Rattle.bytes.specs.Offsets.{Reached};
 
 // The tags of a language in the file.
 const DIST_TAG: u8 = 1;

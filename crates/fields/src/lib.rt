@@ -1,5 +1,4 @@
 // The fields of the problem file before its lists: bytes by their offset, the header, and the language.
-pub mod bytes;
 pub mod header;
 pub mod languages;
 

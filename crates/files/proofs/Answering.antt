@@ -1,7 +1,7 @@
 -- The reader's promise, way by way; and two answers that keep it are equal, with what they leave in the buffers.
 use mathlib.Core.Path.{_≡_, sym, ap, _∙_}
 use mathlib.Core.List.{List}
-use Prim.Native.Nat.{ℕ, _*_, _≤_, _<_}
+use Prim.Native.Nat.{ℕ, _≤_, _<_}
 use native.Mathlib.Omega.{arith}
 use borrow.Author.Tests.{lt-ltb, le-ltb}
 use lib.ListN.{length}
@@ -9,7 +9,6 @@ use Rattle.refusals.specs.declared.Refusal.{Refusal}
 use Rattle.refusals.specs.declared.Refusal.the-variants.{Length}
 use Rattle.refusals.specs.Told.{told}
 use Rattle.refusals.proofs.OneToOne.{told-one, told-not-done}
-use Rattle.weights.specs.Sizes.{weightWords, entryWords}
 use Rattle.fields.specs.declared.Head.{Head}
 use Rattle.fields.specs.declared.HeadRead.the-variants.{Sound, Refused as Faulty}
 use Rattle.records.specs.declared.Listing.the-variants.{Arcs, Attachments}
@@ -17,18 +16,8 @@ use Rattle.files.specs.declared.ReadAnswer.{ReadAnswer}
 use Rattle.files.specs.declared.ReadAnswer.the-variants.{Done, Refused}
 use Rattle.records.specs.Records.{listEnd}
 use Rattle.files.specs.File.{fileRead}
-use Rattle.files.specs.Contents.{sizeOf, listOver}
+use Rattle.contents.specs.Contents.{listOver}
 use Rattle.files.specs.Answers.{Row, readSaid, sized, ReadSays}
-use Rattle.fields.specs.Parts.{SmallHead}
-use Rattle.files.proofs.Tables.{product}
-
-pub size-arcs : (h : Head) → SmallHead h → sizeOf h Arcs ≤ 1024
-unfolding sizeOf
-size-arcs h s = omega (arith, product (h .n) (h .n * weightWords) 16 64 (s .nodes) (omega (arith, s .nodes)))
-
-pub size-attachments : (h : Head) → SmallHead h → sizeOf h Attachments ≤ 2560
-unfolding sizeOf
-size-attachments h s = omega (arith, product (h .n) (h .m * entryWords) 16 160 (s .nodes) (omega (arith, s .destinations)))
 
 module _ (s a m : List ℕ) where
   pub short-arcs : length a < 1024 → ReadSays s a m a m (Refused (Length 1 0))

@@ -23,7 +23,7 @@ use Rattle.fields.specs.declared.HeadRead.{HeadRead}
 use Rattle.fields.specs.declared.HeadRead.the-variants.{Sound, Refused as Faulty}
 use Rattle.fields.specs.declared.LanguageRead.{LanguageRead}
 use Rattle.fields.specs.declared.LanguageRead.the-variants.{Taken, Refused as NotTaken}
-use Rattle.fields.specs.Bytes.{twoAt, fourAt}
+use Rattle.bytes.specs.Bytes.{twoAt, fourAt}
 use Rattle.fields.specs.Nested.{nothing, languageAt}
 use Rattle.fields.specs.Header.{fieldsCheck, modeFieldCheck, headFrom, headRead}
 use Rattle.fields.proofs.Passing.{or-passed, and-both}

@@ -1,5 +1,3 @@
-pub mod Values
-pub mod Tables
-pub mod Storing
 pub mod Answering
 pub mod Faults
+pub mod Bodies

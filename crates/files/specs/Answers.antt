@@ -19,7 +19,7 @@ use Rattle.files.specs.declared.ReadAnswer.the-variants.{Done, Refused}
 use Rattle.fields.specs.Nested.{noLanguage}
 use Rattle.records.specs.Records.{listEnd}
 use Rattle.files.specs.File.{fileRead}
-use Rattle.files.specs.Contents.{listOver}
+use Rattle.contents.specs.Contents.{listOver}
 
 -- an answer: number, which and place, then n, m, mode and the language
 pub record Row : Type 0 where

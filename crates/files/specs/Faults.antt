@@ -15,7 +15,7 @@ use Rattle.weights.specs.Languages.{componentsOf}
 use Rattle.fields.specs.declared.Head.{Head}
 use Rattle.fields.specs.declared.HeadRead.the-variants.{Sound}
 use Rattle.fields.specs.declared.LanguageRead.the-variants.{Refused as NotTaken}
-use Rattle.fields.specs.Bytes.{twoAt, fourAt}
+use Rattle.bytes.specs.Bytes.{twoAt, fourAt}
 use Rattle.fields.specs.Nested.{nothing, languageAt}
 use Rattle.fields.specs.Header.{fieldCheck, modeFieldCheck, headRead}
 use Rattle.records.specs.declared.Listing.{Listing}

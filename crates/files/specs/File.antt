@@ -11,7 +11,7 @@ use Rattle.refusals.specs.declared.Check.the-variants.{Passed, Refused}
 use Rattle.fields.specs.declared.Head.{Head}
 use Rattle.fields.specs.declared.HeadRead.{HeadRead}
 use Rattle.fields.specs.declared.HeadRead.the-variants.{Sound, Refused as Faulty}
-use Rattle.fields.specs.Bytes.{fourAt}
+use Rattle.bytes.specs.Bytes.{fourAt}
 use Rattle.fields.specs.Header.{headRead}
 use Rattle.records.specs.Records.{bodyCheck}
 

@@ -1,6 +1,6 @@
 // The check of a whole file: its count of bytes, its head and its body.
+use bytes::four;
 use fields::HeadRead;
-use fields::bytes::four;
 use fields::header::header;
 use records::lists::body_check;
 use refusals::Check;

@@ -1,7 +1,6 @@
 // The problem file: its bytes are checked from the first to the last, then what it lists is written into two lent buffers.
 pub mod checking;
 pub mod reading;
-pub mod writing;
 
 use refusals::Refusal;
 use weights::Language;

@@ -1,7 +1,7 @@
 // The reader: the lengths of the two buffers first, then the file; it writes only what has passed every check.
 use super::ReadAnswer;
 use super::checking::check_file;
-use super::writing::write;
+use contents::writing::write;
 use fields::HeadRead;
 use refusals::Refusal;
 ghost use Rattle.files.specs.Answers.{ReadSays};

@@ -34,11 +34,11 @@ use Rattle.matrices.specs.Buffers.{Square}
 use Rattle.matrices.specs.Steps.{solves}
 use Rattle.matrices.proofs.Every.{solves-exactly}
 use Rattle.matrices.proofs.Malformed.{check-formed, check-refuses}
-use Rattle.tables.specs.declared.Mode.{Mode}
-use Rattle.tables.specs.declared.Mode.the-variants.{Plain, Hot, Cold}
-use Rattle.tables.specs.declared.Chosen.{Chosen}
-use Rattle.tables.specs.declared.Chosen.the-variants.{Fits, Unfit}
-use Rattle.tables.specs.Entries.{modeFor, needsC}
+use Rattle.modes.specs.declared.Mode.{Mode}
+use Rattle.modes.specs.declared.Mode.the-variants.{Plain, Hot, Cold}
+use Rattle.modes.specs.declared.Chosen.{Chosen}
+use Rattle.modes.specs.declared.Chosen.the-variants.{Fits, Unfit}
+use Rattle.modes.specs.Entries.{modeFor, needsC}
 use Rattle.tables.specs.Tables.{wellFormedEntry, Sized}
 use Rattle.tables.proofs.Forwarded.{best-solves}
 use Rattle.tables.proofs.MalformedEntries as entries

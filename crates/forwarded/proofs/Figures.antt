@@ -17,9 +17,9 @@ use Rattle.weights.specs.Weights.{language}
 use Rattle.weights.specs.Words.{words}
 use Rattle.matrices.specs.Buffers.{blocks, matrixWords, cell, firstMalformed}
 use Rattle.matrices.specs.Steps.{Matrix, every, solves}
-use Rattle.tables.specs.declared.Mode.{Mode}
-use Rattle.tables.specs.declared.Mode.the-variants.{Hot, Cold}
-use Rattle.tables.specs.Entries.{Entry, empty, modeOf}
+use Rattle.modes.specs.declared.Mode.{Mode}
+use Rattle.modes.specs.declared.Mode.the-variants.{Hot, Cold}
+use Rattle.modes.specs.Entries.{Entry, empty, modeOf}
 use Rattle.tables.specs.Tables.{wordsOf, tableWords, tableIn}
 use Rattle.forwarding.specs.Calls.{forwardCheck, forwardLeft}
 use Rattle.histories.specs.Examples.{written}

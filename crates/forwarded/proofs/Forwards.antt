@@ -33,15 +33,16 @@ use Rattle.matrices.specs.Buffers.{cell, wordsAt, entryPlace, matrixIn, Formed}
 use Rattle.matrices.specs.Steps.{solves}
 use Rattle.matrices.proofs.Every.{solves-exactly}
 use Rattle.matrices.proofs.Malformed.{check-formed, formed-check}
-use Rattle.tables.specs.declared.Mode.{Mode}
-use Rattle.tables.specs.Entries.{Entry, modeOf, ValidT, ValidEntry}
+use Rattle.modes.specs.declared.Mode.{Mode}
+use Rattle.modes.specs.Entries.{Entry, modeOf, ValidT, ValidEntry}
 use Rattle.tables.specs.Tables.{tableWords, tablePlace, entryAt, tableIn, decodedEntry, FormedTable}
-use Rattle.tables.specs.Parts.{weightIn, GivenTable}
-use Rattle.tables.proofs.EntrySums.{forwarded-sum}
+use Rattle.tables.specs.Parts.{GivenTable}
+use Rattle.modes.specs.Gains.{weightIn}
+use Rattle.modes.proofs.EntrySums.{forwarded-sum}
 use Rattle.tables.proofs.Forwarded.{sum-formed as places-formed}
 use Rattle.tables.proofs.Padded.{PadsTo, forwarded-pad}
 use Rattle.tables.proofs.PaddedTables.{table-formed-pad, table-pads, forward-words}
-use Rattle.tables.proofs.SemiModules.{language-forwards, language-forwarded-best}
+use Rattle.modes.proofs.SemiModules.{language-forwards, language-forwarded-best}
 use Rattle.tables.proofs.TableBlocks.{table-five}
 use Rattle.routes.specs.Calls.{matrixOf}
 use Rattle.routes.proofs.Bridge.{check-pad, entry-valid, entry-padded}

@@ -15,11 +15,11 @@ use Rattle.weights.specs.Words.{filled, allAre, fits, good, malformed}
 use Rattle.weights.proofs.Readings.{values}
 use Rattle.weights.specs.Sums.{sumOf, sumAt}
 use Rattle.weights.proofs.Sums.{well-sum}
-use Rattle.tables.specs.declared.Mode.{Mode}
-use Rattle.tables.specs.declared.Mode.the-variants.{Plain, Hot, Cold}
-use Rattle.tables.specs.Entries.{Entry, empty, mapped, largestT, ValidT, ValidEntry}
+use Rattle.modes.specs.declared.Mode.{Mode}
+use Rattle.modes.specs.declared.Mode.the-variants.{Plain, Hot, Cold}
+use Rattle.modes.specs.Entries.{Entry, empty, mapped, largestT, ValidT, ValidEntry}
 use Rattle.tables.specs.Tables.{wordsOf, wordOfT, goodEntry, badEntry, readsRoute, readingEntry, isGoodEntry, decodedEntry}
-use Rattle.tables.specs.Parts.{weightIn}
+use Rattle.modes.specs.Gains.{weightIn}
 
 -- ---- written, and read back
 

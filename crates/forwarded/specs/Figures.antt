@@ -9,7 +9,7 @@ use Rattle.weights.specs.declared.Component.the-variants.{Dist, Width}
 use Rattle.weights.specs.declared.Language.{Language}
 use Rattle.weights.specs.Weights.{Weight, none, route}
 use Rattle.matrices.specs.Steps.{Matrix}
-use Rattle.tables.specs.Entries.{Entry, empty, mapped}
+use Rattle.modes.specs.Entries.{Entry, empty, mapped}
 use Rattle.histories.specs.Examples.{written}
 
 -- ---- matrices and tables written out

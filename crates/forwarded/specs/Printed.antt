@@ -4,7 +4,7 @@ use Prim.Native.Nat.{ℕ}
 use mathlib.Core.List.{List, [], _∷_}
 use Rattle.weights.specs.Weights.{none}
 use Rattle.matrices.specs.Buffers.{matrixWords}
-use Rattle.tables.specs.Entries.{empty}
+use Rattle.modes.specs.Entries.{empty}
 use Rattle.tables.specs.Tables.{tableWords}
 use Rattle.histories.specs.Examples.{written}
 use Rattle.forwarded.specs.Figures.{tabled, ofValue, valueWithT}

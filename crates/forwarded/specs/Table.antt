@@ -9,7 +9,7 @@ use Rattle.weights.specs.declared.Language.{Language}
 use Rattle.weights.specs.Sizes.{tableSum}
 use Rattle.weights.specs.Weights.{language}
 use Rattle.weights.specs.Languages.{componentsOf}
-use Rattle.tables.specs.Entries.{Entry, modeOf}
+use Rattle.modes.specs.Entries.{Entry, modeOf}
 use Rattle.tables.specs.Tables.{FormedTable}
 use Rattle.routes.specs.Calls.{matrixOf}
 use Rattle.forwarding.specs.Calls.{tableOf, modeMeant, forwardingSum, forwardLeft}

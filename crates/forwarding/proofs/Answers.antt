@@ -21,8 +21,8 @@ use Rattle.weights.specs.Languages.{componentsOf, countCheck, limitCheck, padde
 use Rattle.weights.proofs.Padding.{padWeight, testD-pad, testU-pad, testC-pad, sound-unpad}
 use Rattle.weights.proofs.Checking.{few}
 use Rattle.matrices.specs.Buffers.{matrixIn}
-use Rattle.tables.specs.declared.Mode.{Mode}
-use Rattle.tables.specs.Entries.{modeOf, needsC}
+use Rattle.modes.specs.declared.Mode.{Mode}
+use Rattle.modes.specs.Entries.{modeOf, needsC}
 use Rattle.tables.specs.Tables.{tableWords, tableIn}
 use Rattle.tables.proofs.PaddedTables.{table-check-pad, forward-words}
 use Rattle.routes.specs.Checks.{nodesCheck, arcsCheck, routesCheck}

@@ -25,9 +25,9 @@ use Rattle.weights.proofs.Checking.{check-sound}
 use Rattle.matrices.specs.Buffers.{matrixIn, Square, Formed}
 use Rattle.matrices.specs.Steps.{solves, Given}
 use Rattle.matrices.proofs.Malformed.{check-formed}
-use Rattle.tables.specs.declared.Mode.{Mode}
-use Rattle.tables.specs.declared.Chosen.the-variants.{Fits, Unfit}
-use Rattle.tables.specs.Entries.{modeFor, needsC}
+use Rattle.modes.specs.declared.Mode.{Mode}
+use Rattle.modes.specs.declared.Chosen.the-variants.{Fits, Unfit}
+use Rattle.modes.specs.Entries.{modeFor, needsC}
 use Rattle.tables.specs.Tables.{Sized, FormedTable}
 use Rattle.tables.specs.Parts.{GivenTable}
 use Rattle.tables.proofs.MalformedEntries as entries

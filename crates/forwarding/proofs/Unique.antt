@@ -7,9 +7,9 @@ use Rattle.refusals.proofs.OneToOne.{answer-one}
 use Rattle.refusals.proofs.First.{passed-not}
 use Rattle.weights.specs.declared.Language.{Language}
 use Rattle.weights.proofs.Unique.{places-one}
-use Rattle.tables.specs.declared.Mode.{Mode}
-use Rattle.tables.specs.declared.Chosen.{Chosen}
-use Rattle.tables.specs.declared.Chosen.the-variants.{Fits}
+use Rattle.modes.specs.declared.Mode.{Mode}
+use Rattle.modes.specs.declared.Chosen.{Chosen}
+use Rattle.modes.specs.declared.Chosen.the-variants.{Fits}
 use Rattle.routes.proofs.Order.{refused-one}
 use Rattle.forwarding.specs.declared.Arguments.{Arguments}
 use Rattle.forwarding.specs.declared.Arguments.the-variants.{Given, Refused as Not-given}

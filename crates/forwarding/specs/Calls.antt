@@ -13,8 +13,8 @@ use Rattle.weights.specs.declared.Component.{Component}
 use Rattle.weights.specs.declared.Language.{Language}
 use Rattle.weights.specs.Weights.{language}
 use Rattle.weights.specs.Languages.{componentsOf, countCheck, limitCheck}
-use Rattle.tables.specs.declared.Mode.{Mode}
-use Rattle.tables.specs.Entries.{Entry, modeFor, modeOf}
+use Rattle.modes.specs.declared.Mode.{Mode}
+use Rattle.modes.specs.Entries.{Entry, modeFor, modeOf}
 use Rattle.tables.specs.Tables.{tableWords, tableIn}
 use Rattle.routes.specs.Checks.{nodesCheck, lengthCheck, lawDCheck, lawUCheck, arcsCheck, routesCheck}
 use Rattle.routes.specs.Calls.{matrixOf}

@@ -14,11 +14,11 @@ use Rattle.weights.specs.Sizes.{entryWords, arcSum}
 use Rattle.weights.specs.Laws.{testC}
 use Rattle.matrices.specs.Buffers.{matrixIn}
 use Rattle.matrices.specs.Steps.{solves}
-use Rattle.tables.specs.declared.Mode.{Mode}
-use Rattle.tables.specs.declared.Mode.the-variants.{Plain}
-use Rattle.tables.specs.declared.Chosen.{Chosen}
-use Rattle.tables.specs.declared.Chosen.the-variants.{Fits, Unfit}
-use Rattle.tables.specs.Entries.{modeFor, needsC}
+use Rattle.modes.specs.declared.Mode.{Mode}
+use Rattle.modes.specs.declared.Mode.the-variants.{Plain}
+use Rattle.modes.specs.declared.Chosen.{Chosen}
+use Rattle.modes.specs.declared.Chosen.the-variants.{Fits, Unfit}
+use Rattle.modes.specs.Entries.{modeFor, needsC}
 use Rattle.tables.specs.Tables.{tableCheck}
 
 -- the most destinations

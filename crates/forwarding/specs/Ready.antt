@@ -10,9 +10,9 @@ use Rattle.weights.specs.declared.Places.{Places}
 use Rattle.weights.specs.Sizes.{places}
 use Rattle.weights.specs.Weights.{Sound}
 use Rattle.weights.specs.Languages.{componentsOf, padded, placesOf, SmallLimits}
-use Rattle.tables.specs.declared.Mode.{Mode}
-use Rattle.tables.specs.declared.Chosen.the-variants.{Fits}
-use Rattle.tables.specs.Entries.{modeFor}
+use Rattle.modes.specs.declared.Mode.{Mode}
+use Rattle.modes.specs.declared.Chosen.the-variants.{Fits}
+use Rattle.modes.specs.Entries.{modeFor}
 use Rattle.forwarding.specs.declared.Arguments.{Arguments}
 use Rattle.forwarding.specs.declared.Arguments.the-variants.{Given, Refused as Not-given}
 use Rattle.forwarding.specs.Calls.{argumentsChecks}

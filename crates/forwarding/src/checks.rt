@@ -1,10 +1,10 @@
 // The checks of forwarding in 01's order: 3, 5, 4 on the arguments, then 9, 10, 6, 12 on the buffers.
 use super::Arguments;
 use super::MOST_DESTINATIONS;
+use modes::Chosen;
+use modes::Mode;
 use refusals::Check;
 use refusals::Refusal;
-use tables::Chosen;
-use tables::Mode;
 use weights::ARC_SUM;
 use weights::Checked;
 use weights::ENTRY_WORDS;
@@ -42,7 +42,7 @@ pub fn check_arguments(l: Language, n: u32, m: u32, number: u32) -> Arguments
         Check::Refused(x) => Arguments::Refused(x),
         Check::Passed => match check_destinations(m) {
             Check::Refused(x) => Arguments::Refused(x),
-            Check::Passed => match tables::modes::mode_for(l, m as usize, number) {
+            Check::Passed => match modes::choosing::mode_for(l, m as usize, number) {
                 Chosen::Unfit => Arguments::Refused(Refusal::Size { which: 3, place: 0 }),
                 Chosen::Fits(mode) => match weights::placing::check(l) {
                     Checked::Unsound(x) => Arguments::Refused(x),
@@ -86,7 +86,7 @@ fn check_lengths(n: usize, m: usize, a: &[u32], r: &[u32], mapping: &[u32], f: &
 fn check_law_c(p: Places, mode: Mode) -> Check
     ensures { λ c. ⌜ c ≡ lawCCheck mode (placesOf p) ⌝ }
 {
-    if !tables::modes::needs_c(mode) {
+    if !modes::choosing::needs_c(mode) {
         return Check::Passed;
     }
     if !laws::has_c(p) {
@@ -140,7 +140,7 @@ fn check_equation(p: Places, n: usize, a: &[u32], r: &[u32]) -> Check
     requires { ⌜ Given (placesOf p) n (now a) (now r) ⌝ }
     ensures { λ c. ⌜ c ≡ solvesCheck (placesOf p) n (now (a .entry)) (now (r .entry)) ⌝ }
 {
-    if matrices::equation::solves(p, n, a, r) {
+    if rows::equation::solves(p, n, a, r) {
         return Check::Passed;
     }
     Check::Refused(Refusal::Equation { which: 2, place: 0 })

@@ -2,8 +2,8 @@
 pub mod checks;
 pub mod forward;
 
+use modes::Mode;
 use refusals::Refusal;
-use tables::Mode;
 use weights::Places;
 
 pub const MOST_DESTINATIONS: u32 = 32;

@@ -1,4 +1,4 @@
-pub mod Words
 pub mod Order
 pub mod Answers
 pub mod Unique
+pub mod Rows

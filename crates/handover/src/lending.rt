@@ -1,7 +1,7 @@
 // The calls of a handover: which matrix lends, the row that is lent, and why none is.
 use super::LenderAnswer;
 use super::checks;
-use super::comparing;
+use holding::comparing;
 use refusals::Answer;
 use routes::Ready;
 use weights::Language;

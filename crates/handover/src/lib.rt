@@ -1,6 +1,5 @@
 // At a handover: the row that the forwarder gets, lent from the new matrix or from the standing one. The calls take every input.
 pub mod checks;
-pub mod comparing;
 pub mod lending;
 
 use refusals::Refusal;

@@ -26,16 +26,15 @@ use Rattle.weights.specs.Weights.{language}
 use Rattle.weights.specs.Languages.{componentsOf, SmallLimits}
 use Rattle.weights.proofs.Checking.{few}
 use Rattle.matrices.specs.Buffers.{matrixWords}
-use Rattle.matrices.specs.Steps.{Matrix, solves}
+use Rattle.matrices.specs.Steps.{Matrix}
 use Rattle.matrices.proofs.Entries.{matrix-cong, length-matrix}
-use Rattle.matrices.proofs.Every.{solves-exactly}
 use Rattle.routes.specs.Checks.{firstSettle, manyCheck, listCheck}
 use Rattle.routes.specs.Calls.{matrixOf, stepOf, stepFits, runOf, doneOf, matricesChecks, stepsCheck, stepsRowBy, stepsRow, stepsLeftBy, stepsLeft}
 use Rattle.routes.proofs.Order.{nodes-passed}
 use Rattle.histories.specs.History.{BestColumn}
 use Rattle.histories.proofs.Reached.{network}
 use Rattle.handover.specs.Calls.{bestWords, isBest}
-use Rattle.handover.proofs.Words.{words-exactly}
+use Rattle.holding.proofs.Words.{words-exactly}
 use Rattle.histories.proofs.Reached.{length-steps}
 use Rattle.histories.proofs.Histories.{settle-number, mem-steps}
 use Rattle.histories.proofs.Standing.{words-self, routes-formed}
@@ -67,7 +66,7 @@ row-steps n [] h r = refl
 row-steps n (x ∷ list) h r = let k : x < n = r .0 in ap₂ (λ (s : Step) (t : List Step). s ∷ t) (rw (lt-ltb x firstSettle (omega arith))) (row-steps n list h (r .1))
 
 -- A step call whose list has only row steps leaves a matrix that satisfies the equation as it is: sweeping never repairs it.
-pub sweeping-never-repairs : (l : Language) (n : ℕ) (a r list : List ℕ) → solves (componentsOf l) n (matrixOf l n a) (matrixOf l n r) ≡ true → RowsOnly n list → stepsLeft l n a r list ≡ r
+pub sweeping-never-repairs : (l : Language) (n : ℕ) (a r list : List ℕ) → Solves (language (componentsOf l)) n (matrixOf l n a) (matrixOf l n r) → RowsOnly n list → stepsLeft l n a r list ≡ r
 sweeping-never-repairs l n a r list e rows = go (stepsCheck l n a r list) refl
   where
     passed : stepsCheck l n a r list ≡ Passed → matrixWords n (runOf (componentsOf l) n (matrixOf l n a) (matrixOf l n r) (map stepOf list)) ≡ r
@@ -75,7 +74,7 @@ sweeping-never-repairs l n a r list e rows = go (stepsCheck l n a r list) refl
         let h = first-passes (matricesChecks l n a r (manyCheck list ∷ listCheck n list ∷ [])) p in
         ap (λ (s : List Step). matrixWords n (runOf (componentsOf l) n (matrixOf l n a) (matrixOf l n r) s)) (row-steps n list (nodes-passed n (h .0) .1) rows)
         ∙ matrix-cong n (runOf (componentsOf l) n (matrixOf l n a) (matrixOf l n r) (map row list)) (matrixOf l n r)
-        (still (componentsOf l) n (matrixOf l n a) (matrixOf l n r) (solves-exactly (componentsOf l) n (matrixOf l n a) (matrixOf l n r) .0 e) list (matrixOf l n r) (λ i j hi hj. refl))
+        (still (componentsOf l) n (matrixOf l n a) (matrixOf l n r) e list (matrixOf l n r) (λ i j hi hj. refl))
         ∙ words-self matrixSum (componentsOf l) n r (few l) (routes-formed l n a r (manyCheck list ∷ listCheck n list ∷ []) h)
 
     go : (c : Check) → stepsCheck l n a r list ≡ c → stepsLeft l n a r list ≡ r

@@ -33,7 +33,7 @@ use Rattle.routes.proofs.Order.{nodes-passed, length-passed, unless-passes}
 use Rattle.histories.proofs.Reached.{network, reached-formed, reached-reads}
 use Rattle.histories.proofs.Standing.{words-self}
 use Rattle.handover.specs.Calls.{bestWords, isBest}
-use Rattle.handover.proofs.Words.{words-exactly}
+use Rattle.holding.proofs.Words.{words-exactly}
 use Rattle.handovers.specs.Handovers.{LawfulNetwork, EveryEntryBest}
 
 -- a call on A and R gives it

@@ -10,11 +10,13 @@ use Rattle.refusals.specs.Told.{done}
 use Rattle.algebra.specs.Order.{pick, bestOf}
 use Rattle.algebra.specs.Best.{best, bestAmong}
 use Rattle.algebra.specs.Step.{routed}
+use Rattle.weights.specs.Languages.{componentsOf}
 use Rattle.weights.specs.Words.{words}
 use Rattle.matrices.specs.Buffers.{blocks, cell, firstMalformed}
 use Rattle.matrices.specs.Steps.{every}
 use Rattle.matrices.proofs.Entries.{length-matrix}
-use Rattle.routes.specs.Calls.{stepsLeft}
+use Rattle.matrices.proofs.Every.{solves-exactly}
+use Rattle.routes.specs.Calls.{matrixOf, stepsLeft}
 use Rattle.histories.specs.Examples.{depotRoutes, depotLanguage, depotArcWords, depotRouteWords, depotFreshWords}
 use Rattle.handover.specs.Calls.{handoverCheck, isBest, lenderRowBy, lenderRow, rowPart, lentRow}
 use Rattle.handovers.specs.Handovers.{RowsOnly, NotEnough}
@@ -26,7 +28,7 @@ pub depots-not-enough : NotEnough depotLanguage 3 depotArcWords depotFreshWords 
 unfolding blocks words cell firstMalformed every routed bestOf pick best bestAmong
 depots-not-enough = record {
   passes = refl;
-  satisfies = refl;
+  satisfies = solves-exactly (componentsOf depotLanguage) 3 (matrixOf depotLanguage 3 depotArcWords) (matrixOf depotLanguage 3 depotRouteWords) .0 refl;
   lends = refl;
   another = λ e. let z : _≡_ {A = ℕ} 10 4294967295 = ap (λ (s : List ℕ). getD s 4 0) e in omega arith;
 }

@@ -3,17 +3,16 @@
 -- To be believed: all of it. The theorems are in proofs/Tested, Recipe, Stays, Lent, Settles and Worked.
 use Prim.Native.Nat.{ℕ, zero, suc, _+_, _≤_, _<_}
 use mathlib.Core.Path.{_≡_}
-use mathlib.Core.Bool.{true}
 use mathlib.Core.List.{List, [], _∷_, _++_}
 use Rattle.refusals.specs.declared.Check.the-variants.{Passed}
 use Rattle.algebra.specs.Path.{Mem}
 use Rattle.algebra.specs.Best.{Best}
+use Rattle.algebra.specs.Step.{Solves}
 use Rattle.weights.specs.declared.Language.{Language}
 use Rattle.weights.specs.Sizes.{matrixSum}
 use Rattle.weights.specs.Weights.{language}
 use Rattle.weights.specs.Languages.{componentsOf, countCheck, limitCheck, SmallLimits}
 use Rattle.matrices.specs.Buffers.{Formed}
-use Rattle.matrices.specs.Steps.{solves}
 use Rattle.routes.specs.Checks.{firstSettle, nodesCheck, lengthCheck, lawDCheck, lawUCheck, arcsCheck}
 use Rattle.routes.specs.Calls.{matrixOf}
 use Rattle.handover.specs.Calls.{handoverCheck, rowPart, lentRow}
@@ -56,6 +55,6 @@ pub record LawfulNetwork (l : Language) (n : ℕ) (a : List ℕ) : Type 0 where
 -- "Satisfying the routing equation is not enough": the new matrix satisfies it, yet the standing row is lent, which is another
 pub record NotEnough (l : Language) (n : ℕ) (a standing newer : List ℕ) (i : ℕ) : Type 0 where
   pub passes : handoverCheck l n a standing newer i ≡ Passed
-  pub satisfies : solves (componentsOf l) n (matrixOf l n a) (matrixOf l n newer) ≡ true
+  pub satisfies : Solves (language (componentsOf l)) n (matrixOf l n a) (matrixOf l n newer)
   pub lends : lentRow l n a standing newer i ≡ rowPart n i standing
   pub another : rowPart n i newer ≡ rowPart n i standing → ⊥

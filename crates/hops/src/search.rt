@@ -30,8 +30,8 @@ fn is_hop(
     if k == i {
         return false;
     }
-    let x = weights::words::weight_at(a, i * (n * WEIGHT_WORDS) + k * WEIGHT_WORDS);
-    let y = weights::words::weight_at(r, k * (n * WEIGHT_WORDS) + j * WEIGHT_WORDS);
+    let x = words::weight_at(a, i * (n * WEIGHT_WORDS) + k * WEIGHT_WORDS);
+    let y = words::weight_at(r, k * (n * WEIGHT_WORDS) + j * WEIGHT_WORDS);
     let through = weights::joining::join(p, x, y);
     weights::comparing::same(through, route)
 }
@@ -72,7 +72,7 @@ pub fn hop(p: Places, n: usize, a: &[u32], r: &[u32], from: Node, to: Node) -> H
     if i == j {
         return HopFound::Nothing;
     }
-    let route = weights::words::weight_at(r, i * (n * WEIGHT_WORDS) + j * WEIGHT_WORDS);
+    let route = words::weight_at(r, i * (n * WEIGHT_WORDS) + j * WEIGHT_WORDS);
     match route {
         Weight::Route {
             first: _,

@@ -17,7 +17,7 @@ pub fn first_malformed(p: Places, cap: u32, which: u32, n: usize, s: &[u32]) -> 
     let mut e: usize = 0;
     while e < count {
         let at = e * WEIGHT_WORDS;
-        let read = weights::words::read_at(p, cap, s, at);
+        let read = words::read_at(p, cap, s, at);
         if let Read::Malformed = read {
             return Check::Refused(Refusal::Value {
                 which,

@@ -43,7 +43,7 @@ pub fn fresh_row(p: Places, n: usize, i: usize, row: &mut [u32])
     let mut j: usize = 0;
     while j < n {
         let w = fresh_weight(p, i, j);
-        weights::words::write_at(row, j * WEIGHT_WORDS, w);
+        words::write_at(row, j * WEIGHT_WORDS, w);
         j += 1;
     }
 }

@@ -1,6 +1,3 @@
-// Matrices of weights in flat buffers, by rows: their checks, the fresh matrix, row steps and the routing equation.
-pub mod arcs;
+// Matrices of weights in flat buffers, by rows: their checks, and the fresh matrix.
 pub mod checks;
-pub mod equation;
 pub mod fresh;
-pub mod rows;

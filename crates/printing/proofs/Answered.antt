@@ -13,16 +13,16 @@ use Rattle.weights.specs.Sizes.{weightWords, entryWords}
 use Rattle.fields.specs.declared.Head.{Head}
 use Rattle.fields.specs.declared.HeadRead.{HeadRead}
 use Rattle.fields.specs.declared.HeadRead.the-variants.{Sound, Refused as Faulty}
-use Rattle.fields.specs.Bytes.{twoAt}
+use Rattle.bytes.specs.Bytes.{twoAt}
 use Rattle.records.specs.declared.Listing.{Listing}
 use Rattle.records.specs.declared.Listing.the-variants.{Arcs, Attachments}
 use Rattle.records.specs.Records.{listEnd}
 use Rattle.files.specs.declared.ReadAnswer.the-variants.{Done, Refused}
 use Rattle.files.specs.File.{fileRead}
-use Rattle.files.specs.Contents.{wordsEach, columns, sizeOf, listedWords, listedTable, listOver}
+use Rattle.contents.specs.Contents.{wordsEach, columns, sizeOf, listedWords, listedTable, listOver}
 use Rattle.files.specs.Answers.{Row, headRow, sized, ReadSays}
-use Rattle.files.proofs.Tables.{length-grid}
-use Rattle.files.proofs.Storing.{listed-wide}
+use Rattle.contents.proofs.Tables.{length-grid}
+use Rattle.contents.proofs.Storing.{listed-wide}
 use Rattle.encoded.proofs.WellFormed.{done-means}
 use Rattle.texts.specs.Lines.{refusedLine}
 use Rattle.printing.specs.Printed.{textOf, textRead, printed}

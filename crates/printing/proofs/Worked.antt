@@ -9,12 +9,12 @@ use Rattle.matrices.specs.Buffers.{blocks, cell, firstMalformed}
 use Rattle.matrices.specs.Steps.{every}
 use Rattle.tables.specs.Tables.{wordsOf, tableIn}
 use Rattle.routes.specs.Calls.{runOf, doneOf}
-use Rattle.fields.specs.Bytes.{twoAt}
+use Rattle.bytes.specs.Bytes.{twoAt}
 use Rattle.fields.specs.Nested.{added, componentRead, languageFrom}
 use Rattle.fields.specs.Header.{fieldCheck, fieldsCheck, headRead}
 use Rattle.records.specs.Records.{recordLength, endsCheck, valuesCheck, recordCheck, recordsCheck, recordListCheck, listEnd, bodyCheck}
 use Rattle.files.specs.File.{fileRead}
-use Rattle.files.specs.Contents.{outsideAt, listedWords, listedTable}
+use Rattle.contents.specs.Contents.{outsideAt, listedWords, listedTable}
 use Rattle.files.specs.PrintedFile.{printedFile}
 use Rattle.decimals.specs.Digits.{digitsWithin, decimal}
 use Rattle.texts.specs.Lines.{lawsLine, routeLine, entryLine}

@@ -17,9 +17,9 @@ use Rattle.fields.specs.declared.HeadRead.{HeadRead}
 use Rattle.fields.specs.declared.HeadRead.the-variants.{Sound, Refused as Faulty}
 use Rattle.records.specs.declared.Listing.the-variants.{Arcs, Attachments}
 use Rattle.records.specs.Records.{listEnd}
-use Rattle.fields.specs.Bytes.{twoAt}
+use Rattle.bytes.specs.Bytes.{twoAt}
 use Rattle.files.specs.File.{fileRead}
-use Rattle.files.specs.Contents.{listedTable}
+use Rattle.contents.specs.Contents.{listedTable}
 use Rattle.texts.specs.Lines.{lawsLine, routeLines, entryLines, refusedLine}
 use Rattle.printing.specs.Work.{routesTold, routesLeft, blank, tableTold, tableLeft, blankTable}
 

@@ -5,7 +5,7 @@ use refusals::Told;
 use refusals::tell;
 use routes::StepsAnswer;
 use routes::fresh::fresh;
-use routes::steps::steps;
+use steps::steps;
 use weights::Language;
 ghost use mathlib.Core.Path.{_≡_};
 ghost use Prim.Native.Nat.{_+_, _-_, _*_, _≤_, _<_};

@@ -15,7 +15,7 @@ use Rattle.records.specs.declared.Listing.{Listing}
 use Rattle.records.specs.declared.Listing.the-variants.{Arcs, Attachments}
 use Rattle.records.specs.declared.Ends.{Ends}
 use Rattle.records.specs.declared.Ends.the-variants.{Arc, Attachment}
-use Rattle.fields.specs.Bytes.{twoAt}
+use Rattle.bytes.specs.Bytes.{twoAt}
 use Rattle.records.specs.Records.{endsAt, endsCheck, lengthOf, recordCheck, recordsCheck, recordListCheck, listEnd, bodyCheck}
 use Rattle.records.specs.Parts.{InRange, Listed}
 use Rattle.fields.proofs.Passing.{both-pass, unless-passes}

@@ -16,7 +16,7 @@ use Rattle.weights.specs.declared.Language.{Language}
 use Rattle.weights.specs.Sizes.{places, arcSum}
 use Rattle.weights.specs.Languages.{componentsOf}
 use Rattle.weights.specs.Words.{inRange}
-use Rattle.fields.specs.Bytes.{twoAt}
+use Rattle.bytes.specs.Bytes.{twoAt}
 use Rattle.records.specs.Records.{valuesCheck, lengthOf, recordCheck, recordsCheck}
 use Rattle.records.specs.Parts.{componentAt}
 use Rattle.fields.specs.declared.Head.{Head}

@@ -18,7 +18,7 @@ use Rattle.records.specs.declared.Ends.{Ends}
 use Rattle.records.specs.declared.Ends.the-variants.{Arc, Attachment}
 use Rattle.records.specs.declared.Listing.{Listing}
 use Rattle.records.specs.declared.Listing.the-variants.{Arcs, Attachments}
-use Rattle.fields.specs.Bytes.{twoAt}
+use Rattle.bytes.specs.Bytes.{twoAt}
 
 -- ---- one record
 

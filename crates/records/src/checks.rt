@@ -1,9 +1,9 @@
 // One record: two ends, a value for each component, and t in an attachment of modes 2 and 3. Its checks, in order: 1, 7, 8, 6.
 use super::Ends;
 use super::Listing;
+use bytes::byte;
+use bytes::two;
 use fields::Head;
-use fields::bytes::byte;
-use fields::bytes::two;
 use numbers::Destination;
 use numbers::Node;
 use refusals::Check;
@@ -12,13 +12,13 @@ use refusals::checks::or_else;
 use weights::ARC_SUM;
 use weights::Component;
 use weights::Language;
-use weights::words::in_range;
+use words::in_range;
 ghost use mathlib.Core.Path.{_≡_};
 ghost use Prim.Native.Nat.{_+_, _≤_};
 ghost use Rattle.weights.specs.Sizes.{places};
 ghost use Rattle.weights.specs.Languages.{componentsOf};
 ghost use Rattle.records.specs.Records.{recordLength, endsAt, endsCheck, valuesCheck, recordCheck};
-ghost use Rattle.fields.specs.Parts.{Near, Reached};
+ghost use Rattle.bytes.specs.Offsets.{Near, Reached};
 ghost use Rattle.records.specs.Parts.{componentAt};
 
 // The bytes of one record.

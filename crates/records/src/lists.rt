@@ -2,8 +2,8 @@
 use super::Listing;
 use super::checks::record_check;
 use super::checks::record_length;
+use bytes::two;
 use fields::Head;
-use fields::bytes::two;
 use refusals::Check;
 use refusals::Refusal;
 use refusals::checks::or_else;

@@ -13,7 +13,7 @@ pub fn equation(l: Language, n: u32, a: &[u32], r: &[u32]) -> EquationAnswer
     match checks::ready(l, n, a, r) {
         Ready::Refused(x) => EquationAnswer::Refused(x),
         Ready::Given(p) => {
-            if matrices::equation::solves(p, n as usize, a, r) {
+            if rows::equation::solves(p, n as usize, a, r) {
                 return EquationAnswer::Yes;
             }
             EquationAnswer::No

@@ -2,7 +2,6 @@
 pub mod checks;
 pub mod equation;
 pub mod fresh;
-pub mod steps;
 
 use numbers::Node;
 use refusals::Refusal;

@@ -19,8 +19,8 @@ use Rattle.weights.specs.Languages.{placesOf}
 use Rattle.weights.specs.Values.{weightOf}
 use Rattle.weights.specs.Words.{allAre, fits, Reading, good, malformed, reading, readOf}
 use Rattle.weights.proofs.Buffers.{four-words}
-use Rattle.tables.specs.declared.Mode.{Mode}
-use Rattle.tables.specs.Entries.{empty, mapped, largestT}
+use Rattle.modes.specs.declared.Mode.{Mode}
+use Rattle.modes.specs.Entries.{empty, mapped, largestT}
 use Rattle.tables.specs.Tables.{EntryReading, goodEntry, badEntry, readsRoute, readingEntry, entryAt, tablePlace, tableIn}
 use Rattle.tables.specs.Parts.{routeRead}
 

@@ -26,12 +26,12 @@ use Rattle.matrices.specs.Buffers.{matrixIn}
 use Rattle.matrices.specs.Steps.{solves, Given}
 use Rattle.matrices.proofs.Bounds.{formed-valid, formed-most, join-most}
 use Rattle.matrices.proofs.Every.{solves-exactly}
-use Rattle.tables.specs.declared.Mode.{Mode}
-use Rattle.tables.specs.Entries.{Entry, empty, mapped, applied, largestT, modeOf, needsC}
+use Rattle.modes.specs.declared.Mode.{Mode}
+use Rattle.modes.specs.Entries.{Entry, empty, mapped, applied, largestT, modeOf, needsC}
 use Rattle.tables.specs.Tables.{wordsOf, readingEntry, isGoodEntry, decodedEntry, tableWords, tableIn, FormedTable}
 use Rattle.tables.specs.Parts.{GivenTable}
-use Rattle.tables.proofs.EntrySums.{best-keeps}
-use Rattle.tables.proofs.SemiModules.{language-forwards, language-forwarded-best}
+use Rattle.modes.proofs.EntrySums.{best-keeps}
+use Rattle.modes.proofs.SemiModules.{language-forwards, language-forwarded-best}
 use Rattle.tables.proofs.Summing.{Entered, table-entered}
 use Rattle.tables.proofs.TableBlocks.{length-table, table-five, table-reads}
 

@@ -1,13 +1,7 @@
-pub mod Comparisons
-pub mod SemiModules
-pub mod Worked
-pub mod EntrySums
 pub mod Padded
 pub mod EntryReadings
-pub mod Choosing
 pub mod Rooms
 pub mod Summing
-pub mod Gains
 pub mod TableBlocks
 pub mod MalformedEntries
 pub mod Forwarded

@@ -12,7 +12,7 @@ use Rattle.refusals.specs.declared.Check.the-variants.{Passed, Refused}
 use Rattle.weights.specs.declared.Component.{Component}
 use Rattle.weights.specs.Sizes.{entryWords}
 use Rattle.matrices.proofs.Malformed.{passes-all, all-passes, First, refuses-first, first-refuses}
-use Rattle.tables.specs.declared.Mode.{Mode}
+use Rattle.modes.specs.declared.Mode.{Mode}
 use Rattle.tables.specs.Tables.{tablePlace, wellFormedEntry, tableCheck, Sized, FormedTable, AtFirstEntry}
 use Rattle.tables.proofs.Rooms.{Counted, counted}
 

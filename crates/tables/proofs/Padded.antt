@@ -16,9 +16,9 @@ use Rattle.weights.specs.Languages.{padded}
 use Rattle.weights.specs.Words.{filled}
 use Rattle.weights.proofs.Ordering.{join-valid}
 use Rattle.weights.proofs.Padding.{padWeight, better-pad, join-pad, filled-twice}
-use Rattle.tables.specs.declared.Mode.{Mode}
-use Rattle.tables.specs.declared.Mode.the-variants.{Plain, Hot, Cold}
-use Rattle.tables.specs.Entries.{Entry, empty, mapped, firstThen, comparing, betterEntry, applied, ValidT, ValidEntry, modeOf}
+use Rattle.modes.specs.declared.Mode.{Mode}
+use Rattle.modes.specs.declared.Mode.the-variants.{Plain, Hot, Cold}
+use Rattle.modes.specs.Entries.{Entry, empty, mapped, firstThen, comparing, betterEntry, applied, ValidT, ValidEntry, modeOf}
 use Rattle.tables.specs.Tables.{wordsOf}
 
 -- an entry with words 0 after its route's values

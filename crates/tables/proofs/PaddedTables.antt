@@ -21,8 +21,8 @@ use Rattle.weights.specs.Words.{allAre, fits, good, malformed}
 use Rattle.weights.proofs.Padding.{padWeight}
 use Rattle.weights.proofs.Readings.{fits-pad, fits-filled, fits-valid}
 use Rattle.matrices.proofs.Malformed.{first-cong}
-use Rattle.tables.specs.declared.Mode.{Mode}
-use Rattle.tables.specs.Entries.{empty, mapped, largestT, ValidT, ValidEntry, modeOf}
+use Rattle.modes.specs.declared.Mode.{Mode}
+use Rattle.modes.specs.Entries.{empty, mapped, largestT, ValidT, ValidEntry, modeOf}
 use Rattle.tables.specs.Tables.{wordsOf, goodEntry, badEntry, readsRoute, readingEntry, isGoodEntry, decodedEntry, tableWords, tableIn, tablePlace, entryAt, wellFormedEntry, tableCheck, Sized, FormedTable}
 use Rattle.tables.proofs.EntryReadings.{five-words, five-ones}
 use Rattle.tables.proofs.Rooms.{in-table, Counted, counted}

@@ -9,8 +9,8 @@ use lib.ListN.{length}
 use Rattle.weights.specs.declared.Component.{Component}
 use Rattle.weights.specs.Sizes.{entryWords}
 use Rattle.matrices.proofs.Blocks.{block-room}
-use Rattle.tables.specs.declared.Mode.{Mode}
-use Rattle.tables.specs.declared.Entry as declared
+use Rattle.modes.specs.declared.Mode.{Mode}
+use Rattle.modes.specs.declared.Entry as declared
 use Rattle.tables.specs.declared.EntryRead.{EntryRead}
 use Rattle.tables.specs.declared.EntryRead.the-variants.{Good, Malformed}
 use Rattle.tables.specs.Tables.{readingEntry, entryReadOf, isGoodEntry, tablePlace, entryAt, wellFormedEntry, Sized}

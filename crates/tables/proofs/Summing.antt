@@ -20,10 +20,11 @@ use Rattle.weights.specs.Words.{allAre, fits, good, malformed}
 use Rattle.weights.proofs.Readings.{fits-valid}
 use Rattle.matrices.specs.Buffers.{matrixIn}
 use Rattle.matrices.proofs.Bounds.{fits-most, formed-most, most-weaken}
-use Rattle.tables.specs.declared.Mode.{Mode}
-use Rattle.tables.specs.Entries.{Entry, empty, mapped, applied, largestT, ValidT, ValidEntry, modeOf}
+use Rattle.modes.specs.declared.Mode.{Mode}
+use Rattle.modes.specs.Entries.{Entry, empty, mapped, applied, largestT, ValidT, ValidEntry, modeOf}
 use Rattle.tables.specs.Tables.{goodEntry, badEntry, readsRoute, readingEntry, isGoodEntry, decodedEntry, tablePlace, tableIn, FormedTable}
-use Rattle.tables.specs.Parts.{weightIn, GivenTable}
+use Rattle.tables.specs.Parts.{GivenTable}
+use Rattle.modes.specs.Gains.{weightIn}
 use Rattle.tables.proofs.EntryReadings.{five-words, five-ones}
 use Rattle.tables.proofs.Rooms.{in-table}
 

@@ -8,7 +8,7 @@ use lib.Seq.{sets, sets-eq, drop-drop}
 use Rattle.weights.specs.Sizes.{places, weightWords, entryWords}
 use Rattle.weights.specs.Words.{filled}
 use Rattle.matrices.proofs.Blocks.{length-blocks, blocks-at, front-at, blocks-cong}
-use Rattle.tables.specs.Entries.{Entry, empty, mapped}
+use Rattle.modes.specs.Entries.{Entry, empty, mapped}
 use Rattle.tables.specs.Tables.{wordsOf, tableRowWords, tableWords, entryAt, tablePlace, tableIn, decodedEntry}
 
 length-filled : (n : ℕ) (xs : List ℕ) → length (filled n xs) ≡ n

@@ -1,4 +1,2 @@
-pub mod Entries
 pub mod Tables
 pub mod Parts
-pub mod Hot

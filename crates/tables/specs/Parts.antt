@@ -1,38 +1,18 @@
--- What the inner functions say and rely on, on the way to Entries and Tables: an entry's weight, entries that win before a join is
--- made, places in a table, what forwarding is given, and how words are read. To be believed: `weightIn`, by which `forward-sums`
--- (forwarded/proofs/Forwards) speaks of an entry. The rest joins the code to those.
+-- What the inner functions say and rely on, on the way to Tables: places in a table, what forwarding is given, and how words are
+-- read. They join the code to Tables; nothing here has to be believed.
 use Prim.Native.Nat.{ℕ, _+_, _≤_, _<_}
-use mathlib.Core.Bool.{Bool, false, cond}
+use mathlib.Core.Bool.{cond}
 use mathlib.Core.List.{List}
-use lib.Dec.{ltb, leb, eqb}
+use lib.Dec.{leb, eqb}
 use lib.ListN.{length}
 use Rattle.weights.specs.declared.Component.{Component}
 use Rattle.weights.specs.Sizes.{entryWords, ones, arcSum, matrixSum}
 use Rattle.weights.specs.Weights.{Weight, none, route}
 use Rattle.weights.specs.Languages.{SmallLimits}
-use Rattle.weights.specs.Gains.{loses}
 use Rattle.matrices.specs.Buffers.{Formed}
-use Rattle.tables.specs.declared.Mode.{Mode}
-use Rattle.tables.specs.declared.Mode.the-variants.{Plain, Hot, Cold}
-use Rattle.tables.specs.Entries.{Entry, empty, mapped, largestT}
+use Rattle.modes.specs.declared.Mode.{Mode}
+use Rattle.modes.specs.Entries.{empty, mapped, largestT}
 use Rattle.tables.specs.Tables.{EntryReading, goodEntry, badEntry, tablePlace, FormedTable}
-
--- an entry's weight; empty has none
-abbrev pub weightIn : Entry → Weight
-weightIn empty = none
-weightIn (mapped xs t) = route xs
-
--- both are mapped, the first with the smaller t
-abbrev pub sooner : Entry → Entry → Bool
-sooner empty f = false
-sooner (mapped xs t) empty = false
-sooner (mapped xs t) (mapped ys u) = ltb t u
-
--- e stays beside x applied to f, as the first values tell, or in cold mode the numbers t
-abbrev pub losesEntry : Mode → List Component → Entry → Weight → Entry → Bool
-losesEntry Plain cs e x f = loses cs (weightIn e) x (weightIn f)
-losesEntry Hot cs e x f = loses cs (weightIn e) x (weightIn f)
-losesEntry Cold cs e x f = sooner e f
 
 -- entry (i, d) of a table of m destinations lies in the buffer
 pub record InTable (m i d : ℕ) (s : List ℕ) : Type 0 where

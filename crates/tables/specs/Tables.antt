@@ -14,10 +14,10 @@ use Rattle.weights.specs.Sizes.{weightWords, entryWords, ones}
 use Rattle.weights.specs.Weights.{none, route}
 use Rattle.weights.specs.Words.{filled, allAre, Reading, good, malformed, reading}
 use Rattle.matrices.specs.Buffers.{blocks, firstMalformed}
-use Rattle.tables.specs.declared.Mode.{Mode}
+use Rattle.modes.specs.declared.Mode.{Mode}
 use Rattle.tables.specs.declared.EntryRead.{EntryRead}
 use Rattle.tables.specs.declared.EntryRead.the-variants.{Good, Malformed}
-use Rattle.tables.specs.Entries.{Entry, empty, mapped, entryOf, largestT}
+use Rattle.modes.specs.Entries.{Entry, empty, mapped, entryOf, largestT}
 
 -- ---- the words of an entry
 

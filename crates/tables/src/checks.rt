@@ -1,7 +1,7 @@
 // Refusal 6: the first malformed entry of a table.
 use super::EntryRead;
-use super::Mode;
 use super::entries;
+use modes::Mode;
 use numbers::Destination;
 use numbers::Node;
 use refusals::Check;

@@ -1,8 +1,8 @@
 // Entries in buffers: looked up and read by a node and a destination, with malformed patterns told apart, and written.
-use super::Entry;
 use super::EntryRead;
-use super::Mode;
-use super::modes;
+use modes::Entry;
+use modes::Mode;
+use modes::choosing;
 use numbers::Destination;
 use numbers::Node;
 use weights::ENTRY_WORDS;
@@ -19,7 +19,7 @@ ghost use Rattle.weights.specs.Sizes.{places, entryWords, ones};
 ghost use Rattle.weights.specs.Languages.{placesOf};
 ghost use Rattle.weights.specs.Values.{weightOf};
 ghost use Rattle.weights.specs.Words.{allAre};
-ghost use Rattle.tables.specs.Entries.{entryOf};
+ghost use Rattle.modes.specs.Entries.{entryOf};
 ghost use Rattle.tables.specs.Tables.{wordsOf, readingEntry, entryReadOf, entryAt, tablePlace, tableIn};
 ghost use Rattle.tables.specs.Parts.{InTable, routeRead};
 
@@ -90,7 +90,7 @@ fn read_with(mode: Mode, w: Weight, t: u32) -> EntryRead
         }
         return EntryRead::Malformed;
     };
-    if t <= modes::largest_t(mode) {
+    if t <= choosing::largest_t(mode) {
         return EntryRead::Good(Entry::Mapped {
             first,
             second,
@@ -117,7 +117,7 @@ pub fn read_entry(
 {
     let at = place(m, node, destination);
     let t = s[at + 4];
-    let read = weights::words::read_at(p, cap, s, at);
+    let read = words::read_at(p, cap, s, at);
     match read {
         Read::Good(w) => read_with(mode, w, t),
         Read::Malformed => EntryRead::Malformed,

@@ -1,10 +1,10 @@
 // The forwarding sum: F(i,d) is the best over k of R(i,k) applied to M(k,d).
-use super::Entry;
-use super::Mode;
-use super::applying;
-use super::comparing;
 use super::entries;
-use super::gaining;
+use modes::Entry;
+use modes::Mode;
+use modes::applying;
+use modes::comparing;
+use modes::gaining;
 use numbers::Destination;
 use numbers::Node;
 use weights::ENTRY_WORDS;
@@ -22,9 +22,10 @@ ghost use Rattle.weights.specs.Weights.{language};
 ghost use Rattle.weights.specs.Languages.{placesOf};
 ghost use Rattle.weights.specs.Values.{weightOf, AtMost};
 ghost use Rattle.matrices.specs.Buffers.{matrixIn};
-ghost use Rattle.tables.specs.Entries.{entryOf, applied, modeOf};
+ghost use Rattle.modes.specs.Entries.{entryOf, applied, modeOf};
 ghost use Rattle.tables.specs.Tables.{tableRowWords, tableWords, tableIn, Sized};
-ghost use Rattle.tables.specs.Parts.{weightIn, InTable, GivenTable};
+ghost use Rattle.tables.specs.Parts.{InTable, GivenTable};
+ghost use Rattle.modes.specs.Gains.{weightIn};
 
 // The better of e and of x applied to the entry of k and d; what is no route is left out before the table is read.
 fn take_node(
@@ -77,7 +78,7 @@ pub fn forward_entry(
     let mut e = Entry::Empty;
     let mut k: usize = 0;
     while k < n {
-        let x = weights::words::weight_at(r, from + k * WEIGHT_WORDS);
+        let x = words::weight_at(r, from + k * WEIGHT_WORDS);
         e = take_node(p, mode, e, x, s, m, Node(k), Destination(d));
         k += 1;
     }

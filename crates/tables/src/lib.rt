@@ -1,38 +1,9 @@
-// Mapping and forwarding tables in flat buffers, by rows: their entries and checks, the three modes, and the forwarding sum.
-pub mod applying;
+// Mapping and forwarding tables in flat buffers, by rows: their entries and checks, and the forwarding sum.
 pub mod checks;
-pub mod comparing;
 pub mod entries;
 pub mod forwarding;
-pub mod gaining;
-pub mod modes;
 
-// The largest t of a mode other than plain.
-pub const LARGEST_T: u32 = 65535;
-
-pub enum Mode {
-    Plain,
-    Hot,
-    Cold,
-}
-
-// What a mode's number stands for, with a language and a number of destinations.
-pub enum Chosen {
-    Fits(Mode),
-    Unfit,
-}
-
-// A table's entry: a route, with a value in each place, and an outside number t; or empty.
-pub enum Entry {
-    Mapped {
-        first: u32,
-        second: u32,
-        third: u32,
-        fourth: u32,
-        t: u32,
-    },
-    Empty,
-}
+use modes::Entry;
 
 // What the words of an entry stand for.
 pub enum EntryRead {

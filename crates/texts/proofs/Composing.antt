@@ -11,7 +11,7 @@ use lib.ListN.{length, take, set}
 use lib.Seq.{sets, length-sets}
 use Rattle.refusals.specs.declared.Told.{Told}
 use Rattle.weights.specs.Weights.{Weight}
-use Rattle.tables.specs.Entries.{Entry}
+use Rattle.modes.specs.Entries.{Entry}
 use Rattle.decimals.specs.Digits.{decimal}
 use Rattle.decimals.specs.Texts.{Put}
 use Rattle.decimals.proofs.Putting.{put-none, put-byte, put-then, put-as}

@@ -12,7 +12,7 @@ use Rattle.weights.specs.Weights.{Weight, none, route}
 use Rattle.weights.specs.Words.{allAre, decoded}
 use Rattle.matrices.specs.Buffers.{blocks, wordsAt, cell}
 use Rattle.matrices.proofs.Blocks.{blocks-suc}
-use Rattle.tables.specs.Entries.{Entry, empty, mapped}
+use Rattle.modes.specs.Entries.{Entry, empty, mapped}
 use Rattle.tables.specs.Tables.{decodedEntry, entryAt, tablePlace, tableIn, wordOfT}
 use Rattle.decimals.specs.Texts.{Put}
 use Rattle.decimals.proofs.Putting.{put-none, put-then, put-as}

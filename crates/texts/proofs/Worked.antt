@@ -4,7 +4,7 @@ use mathlib.Core.Bool.{true}
 use mathlib.Core.List.{[], _∷_, _++_}
 use Rattle.refusals.specs.Told.{row}
 use Rattle.matrices.specs.Buffers.{blocks}
-use Rattle.tables.specs.Entries.{mapped}
+use Rattle.modes.specs.Entries.{mapped}
 use Rattle.decimals.specs.Digits.{digitsWithin, decimal}
 use Rattle.texts.specs.PrintedCase.{caseRoutes, caseTable}
 use Rattle.texts.specs.Lines.{lawsLine, routeLine, entryLine, refusedLine, routeLines, entryLines}

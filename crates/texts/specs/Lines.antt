@@ -7,7 +7,7 @@ use lib.Dec.{eqb}
 use Rattle.refusals.specs.declared.Told.{Told}
 use Rattle.weights.specs.Weights.{Weight, none, route}
 use Rattle.matrices.specs.Buffers.{blocks}
-use Rattle.tables.specs.Entries.{Entry, empty, mapped}
+use Rattle.modes.specs.Entries.{Entry, empty, mapped}
 use Rattle.decimals.specs.Digits.{decimal}
 
 -- ---- bytes

@@ -3,7 +3,7 @@
 use Prim.Native.Nat.{ℕ}
 use lib.ListN.{take}
 use Rattle.weights.specs.Weights.{Weight, none, route}
-use Rattle.tables.specs.Entries.{Entry, empty, mapped}
+use Rattle.modes.specs.Entries.{Entry, empty, mapped}
 
 -- the first k values of a weight
 abbrev pub firstValues : ℕ → Weight → Weight

@@ -3,7 +3,7 @@
 use Prim.Native.Nat.{ℕ, zero, suc}
 use mathlib.Core.List.{[], _∷_}
 use Rattle.weights.specs.Weights.{Weight, none, route}
-use Rattle.tables.specs.Entries.{Entry, mapped}
+use Rattle.modes.specs.Entries.{Entry, mapped}
 
 -- the printed matrix
 abbrev pub caseRoutes : ℕ → ℕ → Weight

@@ -2,15 +2,15 @@
 use super::pieces::put_entry;
 use super::pieces::put_field;
 use super::pieces::put_weight;
+use modes::Entry;
 use refusals::Told;
-use tables::Entry;
 use weights::Weight;
 ghost use mathlib.Core.List.{[], _∷_, _++_};
 ghost use Prim.Native.Nat.{_+_, _≤_};
 ghost use lib.ListN.{length};
 ghost use Rattle.decimals.specs.Texts.{Put};
 ghost use Rattle.weights.specs.Values.{weightOf};
-ghost use Rattle.tables.specs.Entries.{entryOf};
+ghost use Rattle.modes.specs.Entries.{entryOf};
 ghost use Rattle.texts.specs.Lines.{feedByte, spaced, routeLine, entryLine, refusedLine, lawsLine};
 ghost use Rattle.texts.specs.Parts.{firstValues, firstOfEntry};
 

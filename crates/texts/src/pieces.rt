@@ -1,6 +1,6 @@
 // The fields of a line: numbers, each after a space, and the dash of what is missing.
 use decimals::put_number;
-use tables::Entry;
+use modes::Entry;
 use weights::Weight;
 ghost use mathlib.Core.Bool.{cond};
 ghost use mathlib.Core.List.{[], _∷_};
@@ -8,7 +8,7 @@ ghost use Prim.Native.Nat.{_+_, _≤_};
 ghost use lib.ListN.{length, take};
 ghost use Rattle.decimals.specs.Texts.{Put};
 ghost use Rattle.weights.specs.Values.{weightOf};
-ghost use Rattle.tables.specs.Entries.{entryOf};
+ghost use Rattle.modes.specs.Entries.{entryOf};
 ghost use Rattle.texts.specs.Lines.{field, spaced, missing, weightText, entryText};
 ghost use Rattle.texts.specs.Parts.{firstValues, firstOfEntry};
 

@@ -5,7 +5,7 @@ use numbers::Destination;
 use numbers::Node;
 use tables::entries::look_up;
 use weights::WEIGHT_WORDS;
-use weights::words::weight_at;
+use words::weight_at;
 ghost use Prim.Native.Nat.{_+_, _*_, _≤_, _<_};
 ghost use lib.ListN.{length};
 ghost use Rattle.weights.specs.Sizes.{places};

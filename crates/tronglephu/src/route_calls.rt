@@ -32,7 +32,7 @@ pub extern "C" fn tronglephu_steps(
     ensures { λ x. ⌜ x ≡ stepsReply (languageOf (now (numbers .entry))) n (now (a .entry)) (now (r .entry)) (now (list .entry)) ⌝ }
     ensures { λ _. ⌜ now (r .exit) ≡ stepsLeft (languageOf (now (numbers .entry))) n (now (a .entry)) (now (r .entry)) (now (list .entry)) ⌝ }
 {
-    match routes::steps::steps(language(numbers), n, a, r, list) {
+    match steps::steps(language(numbers), n, a, r, list) {
         StepsAnswer::Done(count) => done(count),
         StepsAnswer::Refused { refusal, done } => refused(refusal, done),
     }

@@ -11,7 +11,7 @@ fn standing_matrix(r: &mut [u32]) {
     let mut a = network::no_links();
     network::links_before(&mut a);
     routes::fresh::fresh(network::language(), network::NODES, r);
-    routes::steps::steps(network::language(), network::NODES, &a, r, &sweeps);
+    steps::steps(network::language(), network::NODES, &a, r, &sweeps);
 }
 
 // What the words on the screens mean.
@@ -79,7 +79,7 @@ fn step(head: &[u8], number: u32, node: u32, a: &[u32], standing: &[u32], r: &mu
     let mut old = network::no_links();
     network::copy(r, &mut old);
     let list = [number];
-    routes::steps::steps(network::language(), network::NODES, a, r, &list);
+    steps::steps(network::language(), network::NODES, a, r, &list);
     showing::title_of(head, node);
     look(a, standing, &old, r);
 }

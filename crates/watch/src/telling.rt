@@ -115,7 +115,7 @@ pub fn tight_arcs(a: &[u32], r: &[u32]) {
 pub fn best(a: &[u32], r: &mut [u32]) {
     let settles = [256u32, 257, 258];
     routes::fresh::fresh(network::language(), network::NODES, r);
-    routes::steps::steps(network::language(), network::NODES, a, r, &settles);
+    steps::steps(network::language(), network::NODES, a, r, &settles);
 }
 
 // Tells one entry where it is not the best; true where it is not.

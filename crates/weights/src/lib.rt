@@ -3,7 +3,6 @@ pub mod comparing;
 pub mod gaining;
 pub mod joining;
 pub mod placing;
-pub mod words;
 
 use refusals::Refusal;
 

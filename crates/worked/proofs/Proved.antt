@@ -23,16 +23,16 @@ use Rattle.weights.proofs.Worked as weights
 use Rattle.matrices.specs.Buffers.{blocks, cell, firstMalformed}
 use Rattle.matrices.specs.Steps.{Matrix, every, solves}
 use Rattle.matrices.proofs.Every.{solves-exactly}
-use Rattle.tables.specs.declared.Mode.the-variants.{Hot}
-use Rattle.tables.specs.Entries.{mapped, modeOf}
+use Rattle.modes.specs.declared.Mode.the-variants.{Hot}
+use Rattle.modes.specs.Entries.{mapped, modeOf}
 use Rattle.tables.specs.Tables.{tableIn}
 use Rattle.fields.specs.declared.HeadRead.the-variants.{Sound}
-use Rattle.fields.specs.Bytes.{twoAt}
+use Rattle.bytes.specs.Bytes.{twoAt}
 use Rattle.fields.specs.Nested.{added, componentRead, languageFrom}
 use Rattle.fields.specs.Header.{fieldCheck, fieldsCheck, headRead}
 use Rattle.records.specs.Records.{recordLength, endsCheck, valuesCheck, recordCheck, recordsCheck, recordListCheck, listEnd, bodyCheck}
 use Rattle.files.specs.File.{fileRead}
-use Rattle.files.specs.Contents.{outsideAt, listedWords, listedTable}
+use Rattle.contents.specs.Contents.{outsideAt, listedWords, listedTable}
 use Rattle.files.specs.PrintedFile.{printedFile, printedHead}
 use Rattle.histories.specs.History.{HistoryBegun, afterCalls}
 use Rattle.histories.specs.Examples.{written, depotArcs, depotRoutes}

@@ -17,19 +17,19 @@ use Rattle.weights.specs.Weights.{none, route, language}
 use Rattle.weights.specs.Laws.{LawD, LawU, LawC, BreaksD, BreaksU}
 use Rattle.weights.specs.Languages.{componentsOf}
 use Rattle.matrices.specs.Steps.{Matrix}
-use Rattle.tables.specs.declared.Mode.the-variants.{Hot}
-use Rattle.tables.specs.declared.Chosen.the-variants.{Fits}
-use Rattle.tables.specs.Entries.{Entry, mapped, modeOf, modeFor}
+use Rattle.modes.specs.declared.Mode.the-variants.{Hot}
+use Rattle.modes.specs.declared.Chosen.the-variants.{Fits}
+use Rattle.modes.specs.Entries.{Entry, mapped, modeOf, modeFor}
 use Rattle.tables.specs.Tables.{tableIn}
 use Rattle.routes.specs.Calls.{matrixOf, freshLeft, stepsRow, StepsRow}
 use Rattle.histories.specs.Examples.{written, depotArcs, depotRoutes}
 use Rattle.fields.specs.declared.Head.{Head}
 use Rattle.fields.specs.declared.HeadRead.the-variants.{Sound}
 use Rattle.records.specs.declared.Listing.the-variants.{Arcs, Attachments}
-use Rattle.fields.specs.Bytes.{twoAt}
+use Rattle.bytes.specs.Bytes.{twoAt}
 use Rattle.records.specs.Records.{listEnd}
 use Rattle.files.specs.File.{fileRead}
-use Rattle.files.specs.Contents.{listedTable}
+use Rattle.contents.specs.Contents.{listedTable}
 use Rattle.files.specs.PrintedFile.{printedFile, printedHead}
 
 -- ---- what a file lists

@@ -1,7 +1,7 @@
 use native.Mathlib.Omega.{arith}
 use mathlib.Core.Path.{sym, _∙_}
 use denote.Ref.{now}
-use Rattle.files.proofs.Storing.{checked-body}
+use Rattle.files.proofs.Bodies.{checked-body}
 use Rattle.files.proofs.Answering.{short-arcs, short-mapping, read-refused, read-done}
 use borrow.Author.Needs.{needs}
 use Rattle.files.proofs.reading.read.Statement.{statement}

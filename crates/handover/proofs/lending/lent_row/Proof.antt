@@ -1,5 +1,5 @@
 use mathlib.Core.Path.{_∙_}
-use Rattle.handover.proofs.Words.{empty-start}
+use Rattle.handover.proofs.Rows.{empty-start}
 use Rattle.handover.proofs.Answers.{newer-says, standing-says, sized, row-newer, row-standing, row-refused, start-newer, start-standing, start-refused}
 use borrow.Author.Needs.{needs}
 use Rattle.handover.proofs.lending.lent_row.Statement.{statement}

@@ -2,7 +2,7 @@ use Prim.Native.Nat.{_+_, _*_, _≤_}
 use native.Mathlib.Omega.{arith}
 use lib.ListN.{length}
 use Rattle.weights.specs.Sizes.{weightWords}
-use Rattle.handover.proofs.Words.{row-in, row-words, row-start}
+use Rattle.handover.proofs.Rows.{row-in, row-words, row-start}
 use borrow.Author.Needs.{needs}
 use Rattle.handover.proofs.lending.row_of.Statement.{statement}
 use Rattle.handover.proofs.lending.row_of.Tie as tie

@@ -9,7 +9,7 @@ use Rattle.matrices.specs.Buffers.{entryPlace, matrixIn}
 use Rattle.matrices.proofs.Entries.{row-room, cell-is}
 use Rattle.matrices.proofs.Blocks.{place-room}
 use Rattle.tables.specs.Tables.{tableIn}
-use Rattle.tables.specs.Entries.{entryOf}
+use Rattle.modes.specs.Entries.{entryOf}
 use Rattle.tables.proofs.Summing.{over, over-none, over-next, over-all, route-most, entry-most}
 use Rattle.tables.proofs.Rooms.{in-table}
 use Rattle.tables.proofs.forwarding.forward_entry.Statement.{statement}

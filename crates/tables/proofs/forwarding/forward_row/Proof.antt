@@ -11,8 +11,8 @@ use Rattle.weights.specs.declared.Places.{Places}
 use Rattle.matrices.specs.Buffers.{matrixIn}
 use Rattle.matrices.proofs.Blocks.{Filled, filled-none, filled-put, filled-is}
 use Rattle.tables.specs.Tables.{wordsOf, tableIn}
-use Rattle.tables.specs.Entries.{modeOf}
-use Rattle.tables.specs.declared.Mode.{Mode}
+use Rattle.modes.specs.Entries.{modeOf}
+use Rattle.modes.specs.declared.Mode.{Mode}
 use Rattle.tables.proofs.TableBlocks.{length-entry, write-is}
 use Rattle.tables.proofs.forwarding.forward_row.Statement.{statement}
 use Rattle.tables.proofs.forwarding.forward_row.Tie as tie

@@ -11,8 +11,8 @@ use Rattle.weights.specs.declared.Places.{Places}
 use Rattle.matrices.specs.Buffers.{matrixIn}
 use Rattle.matrices.proofs.Blocks.{Filled, filled-none, filled-lent, filled-all, lent-part}
 use Rattle.tables.specs.Tables.{tableRowWords, tableIn}
-use Rattle.tables.specs.Entries.{modeOf}
-use Rattle.tables.specs.declared.Mode.{Mode}
+use Rattle.modes.specs.Entries.{modeOf}
+use Rattle.modes.specs.declared.Mode.{Mode}
 use Rattle.tables.proofs.TableBlocks.{length-row}
 use Rattle.tables.proofs.Rooms.{table-small, row-within}
 use Rattle.tables.proofs.forwarding.forward_table.Statement.{statement}

@@ -3,9 +3,9 @@ use Rattle.weights.specs.Sizes.{places}
 use Rattle.weights.specs.Languages.{placesOf}
 use Rattle.weights.specs.Values.{weightOf}
 use Rattle.tables.specs.Tables.{tableIn}
-use Rattle.tables.specs.Entries.{entryOf}
+use Rattle.modes.specs.Entries.{entryOf}
 use Rattle.tables.proofs.Summing.{left-out}
-use Rattle.tables.proofs.Gains.{loses-keeps}
+use Rattle.modes.proofs.Gains.{loses-keeps}
 use borrow.Author.Needs.{needs}
 use Rattle.tables.proofs.forwarding.take_node.Statement.{statement}
 use Rattle.tables.proofs.forwarding.take_node.Tie as tie

@@ -1,4 +1,4 @@
-use Rattle.tables.specs.Entries.{entryOf}
+use Rattle.modes.specs.Entries.{entryOf}
 use Rattle.texts.specs.Parts.{firstOfEntry}
 use Rattle.texts.proofs.Composing.{put-entry}
 use borrow.Author.Needs.{needs}

@@ -1,0 +1,4 @@
+pub mod Tables
+pub mod Values
+pub mod Storing
+pub mod Sizes

@@ -1,0 +1,7 @@
+pub mod Picking
+pub mod Comparisons
+pub mod SemiModules
+pub mod Gains
+pub mod Worked
+pub mod EntrySums
+pub mod Unique
