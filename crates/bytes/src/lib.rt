@@ -1,4 +1,5 @@
-// Bytes by their offset; of several bytes the first is the largest. A byte past the end counts as 0: whether a field is there is a check of its own.
+// Bytes of a file by their offset; of several bytes the first is the largest. A byte past the end counts as 0: whether a field is
+// there is a check of its own.
 ghost use mathlib.Core.Path.{_≡_};
 ghost use Prim.Native.Nat.{_≤_};
 ghost use lib.ListN.{getD};

@@ -1,4 +1,5 @@
-// The calls that work out routes: fresh, steps, and the test of the routing equation. They take every input.
+// The calls fresh and equation, and what they share with the step call, which stands in `steps`: checks and types. They take every
+// input.
 pub mod checks;
 pub mod equation;
 pub mod fresh;

@@ -1,4 +1,4 @@
-// The call that runs a list of steps.
+// The call that runs a list of steps, row steps and settles. It takes every input.
 use numbers::Node;
 use refusals::Check;
 use refusals::Refusal;
