@@ -2,10 +2,10 @@
 -- They join the code to the other definitions; nothing here has to be believed.
 use Prim.Native.Nat.{ℕ, _≤_}
 
--- an offset of a byte
-abbrev pub Near : ℕ → Type 0
-Near at = at ≤ 2000000
+-- an offset of a byte: at most 2,000,000
+abbrev pub ByteOffset : ℕ → Type 0
+ByteOffset at = at ≤ 2000000
 
--- an offset of a record
-abbrev pub Reached : ℕ → Type 0
-Reached at = at ≤ 1800000
+-- an offset of a record: at most 1,800,000
+abbrev pub RecordOffset : ℕ → Type 0
+RecordOffset at = at ≤ 1800000

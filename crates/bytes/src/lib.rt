@@ -4,7 +4,7 @@ ghost use mathlib.Core.Path.{_≡_};
 ghost use Prim.Native.Nat.{_≤_};
 ghost use lib.ListN.{getD};
 ghost use Rattle.bytes.specs.Bytes.{twoAt, fourAt};
-ghost use Rattle.bytes.specs.Offsets.{Near};
+ghost use Rattle.bytes.specs.Offsets.{ByteOffset};
 
 // The byte at an offset.
 pub fn byte(file: &[u8], at: u32) -> u32
@@ -19,7 +19,7 @@ pub fn byte(file: &[u8], at: u32) -> u32
 
 // The number in two bytes.
 pub fn two(file: &[u8], at: u32) -> u32
-    requires { ⌜ Near at ⌝ }
+    requires { ⌜ ByteOffset at ⌝ }
     ensures { λ r. ⌜ (r ≡ twoAt (now (file .entry)) at) × (r ≤ 65535) ⌝ }
 {
     let high = byte(file, at);
@@ -36,7 +36,7 @@ pub fn four(file: &[u8]) -> usize
 
 // The limit of a width or a class.
 pub fn limit(file: &[u8], at: u32) -> u16
-    requires { ⌜ Near at ⌝ }
+    requires { ⌜ ByteOffset at ⌝ }
     ensures { λ r. ⌜ r ≡ twoAt (now (file .entry)) at ⌝ }
 {
     two(file, at) as u16

@@ -25,13 +25,13 @@ ghost use Rattle.bytes.specs.Bytes.{twoAt};
 ghost use Rattle.records.specs.Records.{endsAt, listEnd, bodyCheck};
 ghost use Rattle.contents.specs.Contents.{wordsEach, sizeOf, recordWeight, outsideAt, withOutside, recordWords, listedTable, listOver};
 ghost use Rattle.fields.specs.Parts.{SmallHead};
-ghost use Rattle.bytes.specs.Offsets.{Near, Reached};
+ghost use Rattle.bytes.specs.Offsets.{ByteOffset, RecordOffset};
 ghost use Rattle.records.specs.Parts.{InRange, Listed};
 ghost use Rattle.contents.specs.Parts.{placeOf};
 
 // Value k of a record, at an offset; 0 where the language has no such component.
 fn value(file: &[u8], count: u32, k: u32, at: u32) -> u32
-    requires { ⌜ Near at ⌝ }
+    requires { ⌜ ByteOffset at ⌝ }
     ensures { λ r. ⌜ r ≡ cond (ltb k count) (twoAt (now (file .entry)) at) 0 ⌝ }
 {
     if k < count {
@@ -42,7 +42,7 @@ fn value(file: &[u8], count: u32, k: u32, at: u32) -> u32
 
 // The weight of the record at an offset.
 fn record_weight(file: &[u8], h: Head, at: u32) -> Weight
-    requires { ⌜ Reached at × (h .language .count ≤ places) ⌝ }
+    requires { ⌜ RecordOffset at × (h .language .count ≤ places) ⌝ }
     ensures { λ r. ⌜ words (weightOf r) ≡ words (recordWeight (now (file .entry)) h at) ⌝ }
 {
     let l = h.language;
@@ -61,7 +61,7 @@ fn record_weight(file: &[u8], h: Head, at: u32) -> Weight
 
 // The outside number t of the attachment at an offset.
 fn outside(file: &[u8], h: Head, at: u32) -> u32
-    requires { ⌜ Reached at × (h .language .count ≤ places) ⌝ }
+    requires { ⌜ RecordOffset at × (h .language .count ≤ places) ⌝ }
     ensures { λ r. ⌜ r ≡ outsideAt (now (file .entry)) h at ⌝ }
 {
     if h.mode < 2 {
@@ -127,7 +127,7 @@ fn size_of(h: Head, list: Listing) -> usize
 
 // Writes the record at an offset of the file.
 fn store(file: &[u8], h: Head, list: Listing, at: u32, r: &mut [u32])
-    requires { ⌜ SmallHead h × Reached at × InRange h (endsAt (now file) list at) × (sizeOf h list ≤ length (now r)) ⌝ }
+    requires { ⌜ SmallHead h × RecordOffset at × InRange h (endsAt (now file) list at) × (sizeOf h list ≤ length (now r)) ⌝ }
     ensures { λ _. ⌜ now (r .exit) ≡ sets (now (r .entry)) (placeOf h (endsAt (now (file .entry)) list at)) (recordWords (now (file .entry)) h list at) ⌝ }
 {
     let e = ends_at(file, list, at);
@@ -157,11 +157,11 @@ fn fill(file: &[u8], h: Head, list: Listing, first: u32, count: u32, r: &mut [u3
     clear(size_of(h, list), r);
     let l = h.language;
     let mode = h.mode;
-    let len = record_length(list, mode, l.count);
+    let size = record_length(list, mode, l.count);
     let mut at = first;
     for e in 0..count {
         store(file, h, list, at, r);
-        at = at + len;
+        at = at + size;
     }
 }
 
@@ -172,13 +172,13 @@ pub fn write(file: &[u8], h: Head, next: u32, arcs: &mut [u32], mapping: &mut [u
     ensures { λ _. ⌜ now (mapping .exit) ≡ listOver (now (file .entry)) h Listing.Attachments (listEnd (now (file .entry)) h Listing.Arcs next) (now (mapping .entry)) ⌝ }
 {
     fill(file, h, Listing::Arcs, next + 2, two(file, next), arcs);
-    let mid = list_end(file, h, Listing::Arcs, next);
+    let after_arcs = list_end(file, h, Listing::Arcs, next);
     fill(
         file,
         h,
         Listing::Attachments,
-        mid + 2,
-        two(file, mid),
+        after_arcs + 2,
+        two(file, after_arcs),
         mapping,
     );
 }

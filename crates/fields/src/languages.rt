@@ -12,7 +12,7 @@ ghost use lib.ListN.{length};
 ghost use Rattle.weights.specs.Sizes.{places, productTags};
 ghost use Rattle.fields.specs.Nested.{languageOfPlaces, added, withComponent, withTag, widthRead, classRead, componentRead, languageAt};
 ghost use Rattle.fields.specs.Parts.{LanguageBegins, Advances};
-ghost use Rattle.bytes.specs.Offsets.{Reached};
+ghost use Rattle.bytes.specs.Offsets.{RecordOffset};
 
 // The tags of a language in the file.
 const DIST_TAG: u8 = 1;
@@ -103,7 +103,7 @@ fn refused(r: Refusal) -> LanguageRead
 
 // A width whose tag is at an offset: its limit is there, and is not 0.
 fn width(file: &[u8], at: u32, found: Found) -> LanguageRead
-    requires { ⌜ Reached at × (found .language .count ≤ places) ⌝ }
+    requires { ⌜ RecordOffset at × (found .language .count ≤ places) ⌝ }
     ensures { λ r. ⌜ r ≡ widthRead (now (file .entry)) at found ⌝ }
 {
     let i = at as usize;
@@ -125,7 +125,7 @@ fn width(file: &[u8], at: u32, found: Found) -> LanguageRead
 
 // A class whose tag is at an offset: its limit is there.
 fn class(file: &[u8], at: u32, found: Found) -> LanguageRead
-    requires { ⌜ Reached at × (found .language .count ≤ places) ⌝ }
+    requires { ⌜ RecordOffset at × (found .language .count ≤ places) ⌝ }
     ensures { λ r. ⌜ r ≡ classRead (now (file .entry)) at found ⌝ }
 {
     let i = at as usize;
@@ -141,7 +141,7 @@ fn class(file: &[u8], at: u32, found: Found) -> LanguageRead
 
 // One component: its tag, and a limit for width and class.
 fn component(file: &[u8], at: u32, found: Found) -> LanguageRead
-    requires { ⌜ (at < length (now file)) × Reached at × (found .language .count ≤ places) ⌝ }
+    requires { ⌜ (at < length (now file)) × RecordOffset at × (found .language .count ≤ places) ⌝ }
     ensures { λ r. ⌜ r ≡ componentRead (now (file .entry)) at found ⌝ }
 {
     let i = at as usize;

@@ -1,4 +1,4 @@
-// The fields of the problem file before its lists: bytes by their offset, the header, and the language.
+// The fields of the problem file before its lists: the header, and the language.
 pub mod header;
 pub mod languages;
 

@@ -22,8 +22,8 @@ use Rattle.modes.specs.declared.Mode.the-variants.{Hot, Cold}
 use Rattle.modes.specs.Entries.{Entry, empty, modeOf}
 use Rattle.tables.specs.Tables.{wordsOf, tableWords, tableIn}
 use Rattle.forwarding.specs.Calls.{forwardCheck, forwardLeft}
-use Rattle.histories.specs.Examples.{written}
-use Rattle.forwarded.specs.Figures.{tabled, rowsOf, valueWithT, band, unlimited, bandRoutes, bandArcs, bandMapping, bandTable, distance, pair, distanceRoutes, distanceArcs, distanceMapping, distanceTable, bandLanguage, distanceLanguage}
+use Rattle.histories.specs.Examples.{written, distance, distanceLanguage}
+use Rattle.forwarded.specs.Figures.{tabled, rowsOf, valueWithT, band, unlimited, bandRoutes, bandArcs, bandMapping, bandTable, pair, distanceRoutes, distanceArcs, distanceMapping, distanceTable, bandLanguage}
 
 -- the forwarding table
 abbrev table : List Component → Mode → ℕ → Matrix → List (List Entry) → List (List Entry)

@@ -13,7 +13,8 @@ use Rattle.matrices.specs.Buffers.{blocks, matrixWords, cell, firstMalformed}
 use Rattle.matrices.specs.Steps.{every}
 use Rattle.tables.specs.Tables.{wordsOf, tableWords, tableIn}
 use Rattle.forwarding.specs.Calls.{forwardCheck, forwardLeft}
-use Rattle.forwarded.specs.Figures.{tabled, valueWithT, distance, distanceLanguage}
+use Rattle.histories.specs.Examples.{distance, distanceLanguage}
+use Rattle.forwarded.specs.Figures.{tabled, valueWithT}
 use Rattle.forwarded.specs.Printed.{printedArcs, printedRoutes, printedMapping}
 
 -- the printed F lines, in mode 3

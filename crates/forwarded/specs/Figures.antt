@@ -68,10 +68,6 @@ bandTable = (valueWithT 30 2 ∷ valueWithT 30 1 ∷ []) ∷ (valueWithT 20 2 �
 
 -- ---- figure 6(f), (g), (h): nodes 1 to 5, distance, hot
 
--- distance
-abbrev pub distance : List Component
-distance = Dist ∷ []
-
 -- 002's outside values are here pairs of a bandwidth and a metric, the smaller metric first and then the larger bandwidth. A number
 -- that keeps that order, for bandwidths below 100 and metrics from 1:
 abbrev pub pair : ℕ → ℕ → ℕ
@@ -121,7 +117,3 @@ distanceTable =
 -- the language of the cold table: bandwidth alone
 abbrev pub bandLanguage : Language
 bandLanguage = record { count = 1; first = Width 65535; second = Dist; third = Dist; fourth = Dist }
-
--- the language of the hot table: distance alone
-abbrev pub distanceLanguage : Language
-distanceLanguage = record { count = 1; first = Dist; second = Dist; third = Dist; fourth = Dist }

@@ -1,9 +1,11 @@
--- Matrices written out by rows, and the two depots of P8: their language, arcs and matrix, and the words of these in buffers.
+-- Matrices written out by rows; the language of dist alone; and the two depots of P8: their language, arcs and matrix, and the words
+-- of these in buffers.
 -- To be believed: all of it, beside 01's own line.
 use Prim.Native.Nat.{ℕ}
 use mathlib.Core.List.{List, [], _∷_}
 use lib.ListN.{getD}
 use Rattle.algebra.specs.Step.{fresh}
+use Rattle.weights.specs.declared.Component.{Component}
 use Rattle.weights.specs.declared.Component.the-variants.{Dist, Width}
 use Rattle.weights.specs.declared.Language.{Language}
 use Rattle.weights.specs.Weights.{Weight, none, route, language}
@@ -14,6 +16,14 @@ use Rattle.matrices.specs.Steps.{Matrix}
 -- the matrix with these rows
 abbrev pub written : List (List Weight) → Matrix
 written rows i j = getD (getD rows i []) j none
+
+-- dist alone
+abbrev pub distance : List Component
+distance = Dist ∷ []
+
+-- the same, as a call is given it
+abbrev pub distanceLanguage : Language
+distanceLanguage = record { count = 1; first = Dist; second = Dist; third = Dist; fourth = Dist }
 
 -- a width of 10
 abbrev pub ten : Weight

@@ -11,7 +11,7 @@ use Rattle.refusals.specs.Told.{done}
 use Rattle.refusals.specs.Checks.{firstOf}
 use Rattle.algebra.specs.Path.{Mem}
 use Rattle.algebra.specs.Best.{Best, best}
-use Rattle.algebra.specs.Step.{Stretches, fresh, reached}
+use Rattle.algebra.specs.Step.{Stretches, reached}
 use Rattle.weights.specs.declared.Language.{Language}
 use Rattle.weights.specs.Weights.{better, language}
 use Rattle.weights.specs.Languages.{componentsOf, SmallLimits}

@@ -11,7 +11,7 @@ use Rattle.matrices.specs.Steps.{Matrix, every}
 
 -- entry (i, j) of the buffer has the words of entry i of a column
 abbrev pub heldAt : ℕ → List ℕ → List ℕ → ℕ → ℕ → Bool
-heldAt n s col j i = sameValues (wordsAt s (entryPlace n i j)) (wordsAt col (i * weightWords))
+heldAt n s entries j i = sameValues (wordsAt s (entryPlace n i j)) (wordsAt entries (i * weightWords))
 
 -- entry (i, j) of the buffer has the words of R(i, j)
 abbrev pub entryHas : ℕ → List ℕ → Matrix → ℕ → ℕ → Bool

@@ -14,18 +14,18 @@ ghost use Rattle.matrices.specs.Steps.{every, GivenArcs};
 ghost use Rattle.holding.specs.Holding.{heldAt, columnHas};
 
 // The four words at one place and at another are the same.
-fn same_words(s: &[u32], at: usize, col: &[u32], from: usize) -> bool
-    requires { ⌜ (at + weightWords ≤ length (now s)) × (from + weightWords ≤ length (now col)) ⌝ }
-    ensures { λ b. ⌜ b ≡ sameValues (wordsAt (now (s .entry)) at) (wordsAt (now (col .entry)) from) ⌝ }
+fn same_words(s: &[u32], at: usize, entries: &[u32], from: usize) -> bool
+    requires { ⌜ (at + weightWords ≤ length (now s)) × (from + weightWords ≤ length (now entries)) ⌝ }
+    ensures { λ b. ⌜ b ≡ sameValues (wordsAt (now (s .entry)) at) (wordsAt (now (entries .entry)) from) ⌝ }
 {
     let a = s[at];
     let b = s[at + 1];
     let c = s[at + 2];
     let d = s[at + 3];
-    let e = col[from];
-    let f = col[from + 1];
-    let g = col[from + 2];
-    let h = col[from + 3];
+    let e = entries[from];
+    let f = entries[from + 1];
+    let g = entries[from + 2];
+    let h = entries[from + 3];
     if a != e {
         return false;
     }
@@ -38,17 +38,17 @@ fn same_words(s: &[u32], at: usize, col: &[u32], from: usize) -> bool
     d == h
 }
 
-// Column j of the matrix holds the words of the column `col`.
-fn column_same(n: usize, col: &[u32], s: &[u32], j: usize) -> bool
-    requires { ⌜ Square n (now s) × (j < n) × (n * weightWords ≤ length (now col)) ⌝ }
-    ensures { λ b. ⌜ b ≡ every n (heldAt n (now (s .entry)) (now (col .entry)) j) ⌝ }
+// Column j of the matrix holds the words of `entries`, one for each row.
+fn column_same(n: usize, entries: &[u32], s: &[u32], j: usize) -> bool
+    requires { ⌜ Square n (now s) × (j < n) × (n * weightWords ≤ length (now entries)) ⌝ }
+    ensures { λ b. ⌜ b ≡ every n (heldAt n (now (s .entry)) (now (entries .entry)) j) ⌝ }
 {
     let mut i: usize = 0;
     while i < n {
         if !same_words(
             s,
             i * (n * WEIGHT_WORDS) + j * WEIGHT_WORDS,
-            col,
+            entries,
             i * WEIGHT_WORDS,
         ) {
             return false;
@@ -63,9 +63,9 @@ fn column_best(p: Places, n: usize, a: &[u32], s: &[u32], j: usize) -> bool
     requires { ⌜ GivenArcs (placesOf p) n (now a) × Square n (now s) × (j < n) ⌝ }
     ensures { λ b. ⌜ b ≡ columnHas n (now (s .entry)) (best (language (placesOf p)) n (matrixIn places n (now (a .entry)))) j ⌝ }
 {
-    let mut col = [0u32; 64];
-    columns::settling::settle_column(p, n, a, j, &mut col);
-    column_same(n, &col, s, j)
+    let mut entries = [0u32; 64];
+    columns::settling::settle_column(p, n, a, j, &mut entries);
+    column_same(n, &entries, s, j)
 }
 
 // The matrix is that of the best weights, word for word.

@@ -18,7 +18,7 @@ ghost use Prim.Native.Nat.{_+_, _≤_};
 ghost use Rattle.weights.specs.Sizes.{places};
 ghost use Rattle.weights.specs.Languages.{componentsOf};
 ghost use Rattle.records.specs.Records.{recordLength, endsAt, endsCheck, valuesCheck, recordCheck};
-ghost use Rattle.bytes.specs.Offsets.{Near, Reached};
+ghost use Rattle.bytes.specs.Offsets.{ByteOffset, RecordOffset};
 ghost use Rattle.records.specs.Parts.{componentAt};
 
 // The bytes of one record.
@@ -42,7 +42,7 @@ pub fn record_length(list: Listing, mode: u32, count: u32) -> u32
 
 // The ends of the record at an offset.
 pub fn ends_at(file: &[u8], list: Listing, at: u32) -> Ends
-    requires { ⌜ Near at ⌝ }
+    requires { ⌜ ByteOffset at ⌝ }
     ensures { λ r. ⌜ r ≡ endsAt (now (file .entry)) list at ⌝ }
 {
     let x = byte(file, at) as usize;
@@ -62,7 +62,7 @@ fn no_such(place: u32) -> Check
 
 // Both ends exist.
 fn ends_check(h: Head, at: u32, e: Ends) -> Check
-    requires { ⌜ Near at ⌝ }
+    requires { ⌜ ByteOffset at ⌝ }
     ensures { λ r. ⌜ r ≡ endsCheck h at e ⌝ }
 {
     match e {
@@ -105,7 +105,7 @@ fn component_at(l: Language, k: u32) -> Component
 
 // The values of a record, which begin at an offset.
 fn values_check(file: &[u8], l: Language, at: u32) -> Check
-    requires { ⌜ Near (at + 8) × (l .count ≤ places) ⌝ }
+    requires { ⌜ ByteOffset (at + 8) × (l .count ≤ places) ⌝ }
     ensures { λ r. ⌜ r ≡ valuesCheck (now (file .entry)) (componentsOf l) at ⌝ }
 {
     let count = l.count;
@@ -123,15 +123,15 @@ fn values_check(file: &[u8], l: Language, at: u32) -> Check
 
 // The record at an offset, after records whose first two bytes are below `low`.
 pub fn record_check(file: &[u8], h: Head, list: Listing, at: u32, low: u32) -> Check
-    requires { ⌜ Reached at × (h .language .count ≤ places) ⌝ }
+    requires { ⌜ RecordOffset at × (h .language .count ≤ places) ⌝ }
     ensures { λ r. ⌜ r ≡ recordCheck (now (file .entry)) h list at low ⌝ }
 {
     let l = h.language;
     let mode = h.mode;
-    let len = record_length(list, mode, l.count);
+    let size = record_length(list, mode, l.count);
     let ends = ends_check(h, at, ends_at(file, list, at));
     let values = values_check(file, l, at + 2);
-    let end = at + len;
+    let end = at + size;
     if file.len() < end as usize {
         return Check::Refused(Refusal::Bytes {
             which: 0,

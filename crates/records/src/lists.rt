@@ -19,7 +19,7 @@ fn records_check(file: &[u8], h: Head, list: Listing, first: u32, count: u32) ->
 {
     let l = h.language;
     let mode = h.mode;
-    let len = record_length(list, mode, l.count);
+    let size = record_length(list, mode, l.count);
     let mut at = first;
     let mut low: u32 = 0;
     for e in 0..count {
@@ -28,7 +28,7 @@ fn records_check(file: &[u8], h: Head, list: Listing, first: u32, count: u32) ->
             return Check::Refused(r);
         }
         low = two(file, at) + 1;
-        at = at + len;
+        at = at + size;
     }
     Check::Passed
 }
@@ -64,9 +64,9 @@ pub fn body_check(file: &[u8], h: Head, at: u32) -> Check
     ensures { λ r. ⌜ r ≡ bodyCheck (now (file .entry)) h at ⌝ }
 {
     let arcs = record_list_check(file, h, Listing::Arcs, at);
-    let mid = list_end(file, h, Listing::Arcs, at);
-    let attachments = record_list_check(file, h, Listing::Attachments, mid);
-    let end = list_end(file, h, Listing::Attachments, mid);
+    let after_arcs = list_end(file, h, Listing::Arcs, at);
+    let attachments = record_list_check(file, h, Listing::Attachments, after_arcs);
+    let end = list_end(file, h, Listing::Attachments, after_arcs);
     if (end as usize) < file.len() {
         return or_else(
             arcs,

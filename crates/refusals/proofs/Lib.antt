@@ -1,3 +1,4 @@
 pub mod OneToOne
 pub mod First
 pub mod Exactly
+pub mod Pinned

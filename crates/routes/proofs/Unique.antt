@@ -8,6 +8,7 @@ use Rattle.refusals.specs.Told.{told}
 use Rattle.refusals.specs.Checks.{answerTold, checkTold}
 use Rattle.refusals.proofs.OneToOne.{told-one, told-not-done, answer-one}
 use Rattle.refusals.proofs.First.{passed-not}
+use Rattle.refusals.proofs.Pinned.{equation-pins}
 use Rattle.weights.specs.declared.Language.{Language}
 use Rattle.weights.proofs.Unique.{places-one}
 use Rattle.weights.proofs.Ordering.{clash}
@@ -17,12 +18,16 @@ use Rattle.routes.specs.declared.EquationAnswer.{EquationAnswer}
 use Rattle.routes.specs.declared.EquationAnswer.the-variants.{Yes, No, Refused as EquationRefused}
 use Rattle.routes.specs.declared.Ready.{Ready}
 use Rattle.routes.specs.declared.Ready.the-variants.{Given as Places-given, Refused as Call-refused}
-use Rattle.routes.specs.Calls.{freshCheck, StepsRow, stepsRow, stepsSaid, EquationRow, equationRow, equationSaid}
+use Rattle.routes.specs.Calls.{freshCheck, freshLeft, StepsRow, stepsRow, stepsLeft, stepsSaid, EquationRow, equationRow, equationSaid}
 use Rattle.routes.specs.Ready.{FreshReady, MatricesReady}
 use Rattle.routes.proofs.Order.{refused-one}
 
-pub fresh-answers-equal : (l : Language) (n : ℕ) (r : List ℕ) (x y : Answer) → answerTold x ≡ checkTold (freshCheck l n r) → answerTold y ≡ checkTold (freshCheck l n r) → x ≡ y
-fresh-answers-equal l n r x y p q = answer-one x y (p ∙ sym q)
+-- what the buffer of fresh holds is pinned with the answer
+pub fresh-answers-equal : (l : Language) (n : ℕ) (r : List ℕ) (x y : Answer) (left right : List ℕ)
+    → (answerTold x ≡ checkTold (freshCheck l n r)) × (left ≡ freshLeft l n r)
+    → (answerTold y ≡ checkTold (freshCheck l n r)) × (right ≡ freshLeft l n r)
+    → (x ≡ y) × (left ≡ right)
+fresh-answers-equal l n r x y left right p q = (answer-one x y (equation-pins (p .0) (q .0)), equation-pins (p .1) (q .1))
 
 steps-one : (x y : StepsAnswer) → stepsSaid x ≡ stepsSaid y → x ≡ y
 steps-one (Done k) (Done m) e = ap Done (ap (λ (w : StepsRow). w .done) e)
@@ -30,8 +35,12 @@ steps-one (Done k) (StepsRefused r m) e = absurd (told-not-done r (sym (ap (λ (
 steps-one (StepsRefused r k) (Done m) e = absurd (told-not-done r (ap (λ (w : StepsRow). w .told) e))
 steps-one (StepsRefused r k) (StepsRefused s m) e = ap₂ StepsRefused (told-one r s (ap (λ (w : StepsRow). w .told) e)) (ap (λ (w : StepsRow). w .done) e)
 
-pub steps-answers-equal : (l : Language) (n : ℕ) (a r list : List ℕ) (x y : StepsAnswer) → stepsSaid x ≡ stepsRow l n a r list → stepsSaid y ≡ stepsRow l n a r list → x ≡ y
-steps-answers-equal l n a r list x y p q = steps-one x y (p ∙ sym q)
+-- so is what the buffer of the step call holds
+pub steps-answers-equal : (l : Language) (n : ℕ) (a r list : List ℕ) (x y : StepsAnswer) (left right : List ℕ)
+    → (stepsSaid x ≡ stepsRow l n a r list) × (left ≡ stepsLeft l n a r list)
+    → (stepsSaid y ≡ stepsRow l n a r list) × (right ≡ stepsLeft l n a r list)
+    → (x ≡ y) × (left ≡ right)
+steps-answers-equal l n a r list x y left right p q = (steps-one x y (equation-pins (p .0) (q .0)), equation-pins (p .1) (q .1))
 
 equation-one : (x y : EquationAnswer) → equationSaid x ≡ equationSaid y → x ≡ y
 equation-one Yes Yes e = refl
@@ -45,7 +54,7 @@ equation-one (EquationRefused r) No e = absurd (told-not-done r (ap (λ (w : Equ
 equation-one (EquationRefused r) (EquationRefused s) e = ap EquationRefused (told-one r s (ap (λ (w : EquationRow). w .told) e))
 
 pub equation-answers-equal : (l : Language) (n : ℕ) (a r : List ℕ) (x y : EquationAnswer) → equationSaid x ≡ equationRow l n a r → equationSaid y ≡ equationRow l n a r → x ≡ y
-equation-answers-equal l n a r x y p q = equation-one x y (p ∙ sym q)
+equation-answers-equal l n a r x y p q = equation-one x y (equation-pins p q)
 
 -- ---- the checks
 

@@ -35,9 +35,9 @@ use Rattle.files.specs.File.{fileRead}
 use Rattle.contents.specs.Contents.{outsideAt, listedWords, listedTable}
 use Rattle.files.specs.PrintedFile.{printedFile, printedHead}
 use Rattle.histories.specs.History.{HistoryBegun, afterCalls}
-use Rattle.histories.specs.Examples.{written, depotArcs, depotRoutes}
+use Rattle.histories.specs.Examples.{written, distance, distanceLanguage, depotArcs, depotRoutes}
 use Rattle.histories.proofs.Worked.{P9}
-use Rattle.worked.specs.Together.{arcsRead, mappingRead, distance, Same, printedMatrix, sixteenLanguage, sixteenArcs, oneStep, ProvedTogether}
+use Rattle.worked.specs.Together.{arcsRead, mappingRead, Same, printedMatrix, sixteenArcs, oneStep, ProvedTogether}
 
 -- ---- matrices of three rows and columns
 
@@ -78,8 +78,8 @@ computed = nine (λ i j. best (language distance) 3 arcs i j ≡ printedMatrix i
 
 -- ---- P6
 
-hot : forwarded (language distance) (modeOf Hot distance) 3 printedMatrix (mappingRead (printedFile 2) 9 (printedHead 2)) 0 0 ≡ mapped (2 ∷ []) 7
-unfolding listedTable blocks listedWords outsideAt words twoAt recordLength listEnd tableIn forwarded bestOf pick
+hot : forwarded (language distance) (modeOf Hot distance) 3 (reached (language distance) 3 (arcsRead (printedFile 2) 9 (printedHead 2)) (sweeps 3 2)) (mappingRead (printedFile 2) 9 (printedHead 2)) 0 0 ≡ mapped (2 ∷ []) 7
+unfolding listedTable blocks listedWords outsideAt words twoAt recordLength listEnd cell routed tableIn forwarded bestOf pick
 hot = refl
 
 -- ---- P7
@@ -120,13 +120,13 @@ no-way = refl
 
 -- ---- P9
 
-begun : HistoryBegun sixteenLanguage 16 sixteenArcs sixteenArcs
+begun : HistoryBegun distanceLanguage 16 sixteenArcs sixteenArcs
 unfolding firstMalformed
 begun = record { fresh-done = refl; arcs-long = refl; arcs-formed = refl; limits = (tt, tt) }
 
 steps : (oneStep 15 ≡ record { told = done; done = 1 }) × (oneStep 16 ≡ record { told = told (NoSuch 0 0); done = 0 })
 unfolding afterCalls
-steps = P9 sixteenLanguage sixteenArcs sixteenArcs begun
+steps = P9 distanceLanguage sixteenArcs sixteenArcs begun
 
 -- ---- together
 

@@ -9,9 +9,7 @@ use Rattle.refusals.specs.Told.{told, done}
 use Rattle.algebra.specs.Best.{Best}
 use Rattle.algebra.specs.Step.{Solves, fresh, reached, sweeps}
 use Rattle.algebra.specs.Modes.{forwarded}
-use Rattle.weights.specs.declared.Component.{Component}
 use Rattle.weights.specs.declared.Component.the-variants.{Dist, Width, Gain}
-use Rattle.weights.specs.declared.Language.{Language}
 use Rattle.weights.specs.Sizes.{weightWords, ones}
 use Rattle.weights.specs.Weights.{none, route, language}
 use Rattle.weights.specs.Laws.{LawD, LawU, LawC, BreaksD, BreaksU}
@@ -22,7 +20,7 @@ use Rattle.modes.specs.declared.Chosen.the-variants.{Fits}
 use Rattle.modes.specs.Entries.{Entry, mapped, modeOf, modeFor}
 use Rattle.tables.specs.Tables.{tableIn}
 use Rattle.routes.specs.Calls.{matrixOf, freshLeft, stepsRow, StepsRow}
-use Rattle.histories.specs.Examples.{written, depotArcs, depotRoutes}
+use Rattle.histories.specs.Examples.{written, distance, distanceLanguage, depotArcs, depotRoutes}
 use Rattle.fields.specs.declared.Head.{Head}
 use Rattle.fields.specs.declared.HeadRead.the-variants.{Sound}
 use Rattle.records.specs.declared.Listing.the-variants.{Arcs, Attachments}
@@ -43,10 +41,6 @@ abbrev pub mappingRead : List ℕ → ℕ → Head → ℕ → ℕ → Entry
 mappingRead s next h =
     tableIn (length (componentsOf (h .language))) (h .m) (listedTable s h Attachments (listEnd s h Arcs next + 2) (twoAt s (listEnd s h Arcs next)))
 
--- the language of dist alone
-abbrev pub distance : List Component
-distance = Dist ∷ []
-
 -- ---- matrices written out
 
 -- two matrices have the same n x n entries
@@ -63,17 +57,13 @@ printedMatrix =
 
 -- ---- sixteen nodes without an arc, dist alone
 
--- dist alone
-abbrev pub sixteenLanguage : Language
-sixteenLanguage = record { count = 1; first = Dist; second = Dist; third = Dist; fourth = Dist }
-
 -- no arcs between sixteen nodes
 abbrev pub sixteenArcs : List ℕ
 sixteenArcs = replicate (16 * (16 * weightWords)) ones
 
 -- a step call with one step, on the fresh matrix
 abbrev pub oneStep : ℕ → StepsRow
-oneStep x = stepsRow sixteenLanguage 16 sixteenArcs (freshLeft sixteenLanguage 16 sixteenArcs) (x ∷ [])
+oneStep x = stepsRow distanceLanguage 16 sixteenArcs (freshLeft distanceLanguage 16 sixteenArcs) (x ∷ [])
 
 -- ---- the list
 
@@ -92,11 +82,14 @@ pub record ProvedTogether : Type 0 where
       (fileRead (printedFile 3) ≡ Sound 9 (printedHead 3))
       × Same 3 (reached (language distance) 3 (arcsRead (printedFile 3) 9 (printedHead 3)) (sweeps 3 2)) printedMatrix
       × ((i j : ℕ) → i < 3 → j < 3 → Best (language distance) 3 (arcsRead (printedFile 3) 9 (printedHead 3)) i j (printedMatrix i j))
-  -- (P6) the same file in hot mode: F(0,0) is 2 with t 7
+  -- (P6) the same file in hot mode, from its own bytes: F(0,0) is 2 with t 7
   pub P6 :
       (fileRead (printedFile 2) ≡ Sound 9 (printedHead 2))
       × (modeFor distance 1 2 ≡ Fits Hot)
-      × (forwarded (language distance) (modeOf Hot distance) 3 printedMatrix (mappingRead (printedFile 2) 9 (printedHead 2)) 0 0 ≡ mapped (2 ∷ []) 7)
+      × (forwarded (language distance) (modeOf Hot distance) 3
+      (reached (language distance) 3 (arcsRead (printedFile 2) 9 (printedHead 2)) (sweeps 3 2))
+      (mappingRead (printedFile 2) 9 (printedHead 2)) 0 0
+      ≡ mapped (2 ∷ []) 7)
   -- (P7) n = 1 with self-arc 5: fresh is best
   pub P7 : Best (language distance) 1 (written ((route (5 ∷ []) ∷ []) ∷ [])) 0 0 (fresh (language distance) 0 0)
   -- (P8) width 10, the two depots: the matrix satisfies the equation, yet the best from 0 to 2 is no route

@@ -12,12 +12,12 @@ use Rattle.columns.proofs.settling.pass.Statement.{statement}
 use Rattle.columns.proofs.settling.pass.Tie as tie
 
 abbrev Inv-loop : tie.InvT-loop
-Inv-loop p n a j col₀ changed₀ i₀ col changed i = (i ≤ n) × Passing p n a j col₀ i col × (changed ≡ false → col ≡ col₀)
+Inv-loop p n a j entries₀ changed₀ i₀ entries changed i = (i ≤ n) × Passing p n a j entries₀ i entries × (changed ≡ false → entries ≡ entries₀)
 
 abbrev μ-loop : tie.MeasureT-loop
-μ-loop p n a j col₀ changed₀ i₀ col changed i = n - i
+μ-loop p n a j entries₀ changed₀ i₀ entries changed i = n - i
 
-small : (s : tie.Start Inv-loop μ-loop) → (s .args .n * weightWords ≤ length (s .args .col .now)) × (s .args .n ≤ 16)
+small : (s : tie.Start Inv-loop μ-loop) → (s .args .n * weightWords ≤ length (s .args .entries .now)) × (s .args .n ≤ 16)
 small s = (s .pre .1 .room, s .pre .0 .arcs .square .few)
 
 loop-holds : tie.Need-loop-holds Inv-loop μ-loop
@@ -29,7 +29,7 @@ renew-requires : tie.Need-renew-requires Inv-loop μ-loop
 renew-requires c κs =
     let l = c .before .before in
     let s = l .before .before .before in
-    (s .pre .0, passing-held (s .args .p) (s .args .n) (s .args .a .now) (s .pre .0) (s .args .j) (s .args .col .now) (s .pre .1) (l .loop .i) (l .loop .col) (omega arith) (l .loop .inv .1), c .before .loop-test .taken)
+    (s .pre .0, passing-held (s .args .p) (s .args .n) (s .args .a .now) (s .pre .0) (s .args .j) (s .args .entries .now) (s .pre .1) (l .loop .i) (l .loop .entries) (omega arith) (l .loop .inv .1), c .before .loop-test .taken)
 
 mul-put : tie.Need-mul-put Inv-loop μ-loop
 mul-put c = omega (arith, small (c .before .before .before .before .before .before .before))
@@ -49,7 +49,7 @@ loop-again c =
     let s = l .before .before .before in
     let q = c .before .before .before .put .ensures in (
       omega arith,
-      passing-more (s .args .p) (s .args .n) (s .args .a .now) (s .pre .0) (s .args .j) (s .args .col .now) (s .pre .1) (l .loop .i) (l .loop .col) _ _ (c .before .before .before .before .before .before .before .loop-test .taken) (l .loop .inv .1)
+      passing-more (s .args .p) (s .args .n) (s .args .a .now) (s .pre .0) (s .args .j) (s .args .entries .now) (s .pre .1) (l .loop .i) (l .loop .entries) _ _ (c .before .before .before .before .before .before .before .loop-test .taken) (l .loop .inv .1)
           (c .before .before .before .before .before .renew .ensures) (q .1),
       λ e. ⊎-elim (λ h. clash (c .if1 .changed) (h .1) e) (λ h. q .0 (h .0 .left) ∙ l .loop .inv .2 (sym (h .1) ∙ e)) (c .if1 .came),
     )
@@ -62,7 +62,7 @@ returns c =
     let l = c .before in
     let s = l .before .before .before in (
       l .loop .inv .2,
-      passing-all (s .args .p) (s .args .n) (s .args .a .now) (s .args .j) (s .args .col .now) (l .loop .i) _ (l .loop .inv .1) (omega arith),
+      passing-all (s .args .p) (s .args .n) (s .args .a .now) (s .args .j) (s .args .entries .now) (l .loop .i) _ (l .loop .inv .1) (omega arith),
     )
 
 pub pass-spec : {M : Type 1} → statement M

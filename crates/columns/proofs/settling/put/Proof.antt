@@ -21,8 +21,8 @@ returns : tie.Need-returns
 returns c =
     let s = c .before .before .before .before .before in (
       λ _. refl,
-      keep-is (s .args .col .now) (s .args .at) (weightOf (s .args .w)) (s .pre)
-          (same-exactly (weightOf (s .args .w)) _ .0 (sym (c .before .same .ensures) ∙ c .if1 .taken) ∙ c .before .before .weight-at .ensures ∙ sym (cell-is (s .args .col .now) (s .args .at))),
+      keep-is (s .args .entries .now) (s .args .at) (weightOf (s .args .w)) (s .pre)
+          (same-exactly (weightOf (s .args .w)) _ .0 (sym (c .before .same .ensures) ∙ c .if1 .taken) ∙ c .before .before .weight-at .ensures ∙ sym (cell-is (s .args .entries .now) (s .args .at))),
     )
 
 write-at-requires : tie.Need-write-at-requires
@@ -34,7 +34,7 @@ same-length-2 c = search needs
 returns-2 : tie.Need-returns-2
 returns-2 c =
     let s = c .before .before .before .before .before .before .before .before .before in
-    (λ e. clash true refl e, c .before .before .write-at .ensures ∙ write-is (s .args .col .now) (s .args .at) (weightOf (s .args .w)) (s .pre))
+    (λ e. clash true refl e, c .before .before .write-at .ensures ∙ write-is (s .args .entries .now) (s .args .at) (weightOf (s .args .w)) (s .pre))
 
 pub put-spec : {M : Type 1} → statement M
 put-spec =

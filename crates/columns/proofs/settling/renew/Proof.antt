@@ -20,10 +20,10 @@ use Rattle.columns.proofs.settling.renew.Statement.{statement}
 use Rattle.columns.proofs.settling.renew.Tie as tie
 
 abbrev Inv-loop : tie.InvT-loop
-Inv-loop p n a i j col from w₀ k₀ w k = (k ≤ n) × (from ≡ i * (n * weightWords)) × (weightOf w₀ ≡ fresh (language (placesOf p)) i j) × (weightOf w ≡ bestOf (order (language (placesOf p))) k (via (placesOf p) (matrixIn places n a) (rowIn places col) i) (weightOf w₀))
+Inv-loop p n a i j entries from w₀ k₀ w k = (k ≤ n) × (from ≡ i * (n * weightWords)) × (weightOf w₀ ≡ fresh (language (placesOf p)) i j) × (weightOf w ≡ bestOf (order (language (placesOf p))) k (via (placesOf p) (matrixIn places n a) (rowIn places entries) i) (weightOf w₀))
 
 abbrev μ-loop : tie.MeasureT-loop
-μ-loop p n a i j col from w₀ k₀ w k = n - k
+μ-loop p n a i j entries from w₀ k₀ w k = n - k
 
 -- row i lies within the matrix, which is small
 room : (s : tie.Start Inv-loop μ-loop) → (s .args .i * (s .args .n * weightWords) + s .args .n * weightWords ≤ length (s .args .a .now)) × (length (s .args .a .now) ≤ 1024) × (s .args .n ≤ 16)
@@ -79,7 +79,7 @@ loop-again c =
       omega arith,
       refl,
       l .loop .inv .2,
-      renewed-more (placesOf (s .args .p)) (matrixIn places (s .args .n) (s .args .a .now)) (rowIn places (s .args .col .now)) (s .args .i) _ (l .loop .k) _ _ _ (c .take-entry .ensures)
+      renewed-more (placesOf (s .args .p)) (matrixIn places (s .args .n) (s .args .a .now)) (rowIn places (s .args .entries .now)) (s .args .i) _ (l .loop .k) _ _ _ (c .take-entry .ensures)
           (c .before .weight-at .ensures ∙ sym (cell-is (s .args .a .now) (entryPlace (s .args .n) (s .args .i) (l .loop .k)))) (l .loop .inv .3),
     )
 
@@ -87,7 +87,7 @@ returns : tie.Need-returns Inv-loop μ-loop
 returns c =
     let l = c .before in
     let s = c .before .before .before .before .before in
-    renewed-all (placesOf (s .args .p)) (via (placesOf (s .args .p)) (matrixIn places (s .args .n) (s .args .a .now)) (rowIn places (s .args .col .now)) (s .args .i)) _ _ _ (l .loop .k) (s .args .n) (l .loop .inv .3) (omega arith) (l .loop .inv .2)
+    renewed-all (placesOf (s .args .p)) (via (placesOf (s .args .p)) (matrixIn places (s .args .n) (s .args .a .now)) (rowIn places (s .args .entries .now)) (s .args .i)) _ _ _ (l .loop .k) (s .args .n) (l .loop .inv .3) (omega arith) (l .loop .inv .2)
 
 pub renew-spec : {M : Type 1} → statement M
 renew-spec =

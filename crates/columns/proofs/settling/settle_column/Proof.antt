@@ -9,10 +9,10 @@ use Rattle.columns.proofs.settling.settle_column.Statement.{statement}
 use Rattle.columns.proofs.settling.settle_column.Tie as tie
 
 abbrev Inv-loop : tie.InvT-loop
-Inv-loop p n a j col₀ t₀ col t = (1 ≤ t) × (n * weightWords ≤ length col₀) × Settling p n a j col₀ (t - 1) col
+Inv-loop p n a j entries₀ t₀ entries t = (1 ≤ t) × (n * weightWords ≤ length entries₀) × Settling p n a j entries₀ (t - 1) entries
 
 abbrev μ-loop : tie.MeasureT-loop
-μ-loop p n a j col₀ t₀ col t = n - t
+μ-loop p n a j entries₀ t₀ entries t = n - t
 
 few : (s : tie.Start Inv-loop μ-loop) → s .args .n ≤ 16
 few s = s .pre .0 .arcs .square .few
@@ -27,7 +27,7 @@ pass-requires : tie.Need-pass-requires Inv-loop μ-loop
 pass-requires c κs =
     let l = c .before .before in
     let s = l .before .before .before .before .before .before .before in
-    (s .pre .0, settling-held (s .args .p) (s .args .n) (s .args .a .now) (s .pre .0) (s .args .j) _ (l .loop .inv .1) (l .loop .t - 1) (l .loop .col) (l .loop .inv .2))
+    (s .pre .0, settling-held (s .args .p) (s .args .n) (s .args .a .now) (s .pre .0) (s .args .j) _ (l .loop .inv .1) (l .loop .t - 1) (l .loop .entries) (l .loop .inv .2))
 
 same-length : tie.Need-same-length Inv-loop μ-loop
 same-length c = omega arith
@@ -40,8 +40,8 @@ returns c =
     let q = c .before .before .before .pass .ensures in
     let still = q .0 (not-true _ (c .if1 .taken)) in
     let k = l .loop .t - 1 in
-    let r = settling-still (s .args .p) (s .args .n) (s .args .a .now) (s .pre .0) (s .args .j) _ (l .loop .inv .1) k (l .loop .col) (l .loop .inv .2) (sym still ∙ q .1) (s .args .n) in
-    still ∙ settling-all (s .args .p) (s .args .n) (s .args .a .now) (s .pre .0) (s .args .j) (s .args .col .now) _ (s .args .n + k) (l .loop .col) r (omega arith) (l .before .before .before .fresh-row .ensures)
+    let r = settling-still (s .args .p) (s .args .n) (s .args .a .now) (s .pre .0) (s .args .j) _ (l .loop .inv .1) k (l .loop .entries) (l .loop .inv .2) (sym still ∙ q .1) (s .args .n) in
+    still ∙ settling-all (s .args .p) (s .args .n) (s .args .a .now) (s .pre .0) (s .args .j) (s .args .entries .now) _ (s .args .n + k) (l .loop .entries) r (omega arith) (l .before .before .before .fresh-row .ensures)
 
 add-t : tie.Need-add-t Inv-loop μ-loop
 add-t c = omega (arith, few (c .before .before .before .before .before .before .before .before .before .before .before .before .before))
@@ -56,7 +56,7 @@ loop-again c =
       omega arith,
       l .loop .inv .1,
       settling-next (s .args .p) (s .args .n) (s .args .a .now) (s .args .j) _ (l .loop .t) _ (l .loop .inv .0)
-          (settling-more (s .args .p) (s .args .n) (s .args .a .now) (s .pre .0) (s .args .j) _ (l .loop .inv .1) (l .loop .t - 1) (l .loop .col) _ (l .loop .inv .2) (c .before .before .before .pass .ensures .1)),
+          (settling-more (s .args .p) (s .args .n) (s .args .a .now) (s .pre .0) (s .args .j) _ (l .loop .inv .1) (l .loop .t - 1) (l .loop .entries) _ (l .loop .inv .2) (c .before .before .before .pass .ensures .1)),
     )
 
 same-length-2 : tie.Need-same-length-2 Inv-loop μ-loop
@@ -66,7 +66,7 @@ returns-2 : tie.Need-returns-2 Inv-loop μ-loop
 returns-2 c =
     let l = c .before in
     let s = l .before .before .before .before .before .before .before in
-    settling-all (s .args .p) (s .args .n) (s .args .a .now) (s .pre .0) (s .args .j) (s .args .col .now) _ (l .loop .t - 1) (l .loop .col) (l .loop .inv .2) (omega arith) (l .before .before .before .fresh-row .ensures)
+    settling-all (s .args .p) (s .args .n) (s .args .a .now) (s .pre .0) (s .args .j) (s .args .entries .now) _ (l .loop .t - 1) (l .loop .entries) (l .loop .inv .2) (omega arith) (l .before .before .before .fresh-row .ensures)
 
 pub settle-column-spec : {M : Type 1} → statement M
 settle-column-spec =

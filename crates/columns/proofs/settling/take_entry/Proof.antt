@@ -29,7 +29,7 @@ loses-requires : tie.Need-loses-requires
 loses-requires c κs =
     let s = c .before .before .before .before in (
       most-weaken arcSum 2147483647 (weightOf (s .args .x)) (lit≤ tt) (s .pre .1),
-      subst (AtMost 2147483647) (cell-is (s .args .col .now) (s .args .at) ∙ sym (c .weight-at .ensures)) (s .pre .2),
+      subst (AtMost 2147483647) (cell-is (s .args .entries .now) (s .args .at) ∙ sym (c .weight-at .ensures)) (s .pre .2),
     )
 
 returns-2 : tie.Need-returns-2
@@ -37,13 +37,13 @@ returns-2 c =
     let s = c .before .before .before .before .before .before in
     let cs = placesOf (s .args .p) in
     loses-stays cs (weightOf (s .args .w)) (weightOf (s .args .x)) _ (sym (c .before .loses .ensures) ∙ c .if1 .taken)
-    ∙ ap (λ (y : Weight). betterOf cs (weightOf (s .args .w)) (join cs (weightOf (s .args .x)) y)) (c .before .before .weight-at .ensures ∙ sym (cell-is (s .args .col .now) (s .args .at)))
+    ∙ ap (λ (y : Weight). betterOf cs (weightOf (s .args .w)) (join cs (weightOf (s .args .x)) y)) (c .before .before .weight-at .ensures ∙ sym (cell-is (s .args .entries .now) (s .args .at)))
 
 join-requires : tie.Need-join-requires
 join-requires c κs =
     let s = c .before .before .before .before .before .before in (
       most-weaken arcSum 2147483647 (weightOf (s .args .x)) (lit≤ tt) (s .pre .1),
-      subst (AtMost 2147483647) (cell-is (s .args .col .now) (s .args .at) ∙ sym (c .before .before .weight-at .ensures)) (s .pre .2),
+      subst (AtMost 2147483647) (cell-is (s .args .entries .now) (s .args .at) ∙ sym (c .before .before .weight-at .ensures)) (s .pre .2),
     )
 
 better-of-requires : tie.Need-better-of-requires
@@ -54,7 +54,7 @@ returns-3 c =
     let s = c .before .before .before .before .before .before .before .before in
     let cs = placesOf (s .args .p) in
     c .better-of .ensures
-    ∙ ap (betterOf cs (weightOf (s .args .w))) (c .before .join .ensures ∙ ap (join cs (weightOf (s .args .x))) (c .before .before .before .before .weight-at .ensures ∙ sym (cell-is (s .args .col .now) (s .args .at))))
+    ∙ ap (betterOf cs (weightOf (s .args .w))) (c .before .join .ensures ∙ ap (join cs (weightOf (s .args .x))) (c .before .before .before .before .weight-at .ensures ∙ sym (cell-is (s .args .entries .now) (s .args .at))))
 
 pub take-entry-spec : {M : Type 1} → statement M
 take-entry-spec =

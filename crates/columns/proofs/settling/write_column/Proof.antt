@@ -12,10 +12,10 @@ use Rattle.columns.proofs.settling.write_column.Statement.{statement}
 use Rattle.columns.proofs.settling.write_column.Tie as tie
 
 abbrev Inv-loop : tie.InvT-loop
-Inv-loop n j col r₀ i₀ r i = (i ≤ n) × (length r ≡ n * (n * weightWords)) × (r ≡ matrixWords n (columnTo i j (rowIn places col) (matrixIn places n r₀)))
+Inv-loop n j entries r₀ i₀ r i = (i ≤ n) × (length r ≡ n * (n * weightWords)) × (r ≡ matrixWords n (columnTo i j (rowIn places entries) (matrixIn places n r₀)))
 
 abbrev μ-loop : tie.MeasureT-loop
-μ-loop n j col r₀ i₀ r i = n - i
+μ-loop n j entries r₀ i₀ r i = n - i
 
 -- the entry lies within the matrix, which is small
 room : (c : tie.In-loop Inv-loop μ-loop) → let s = c .before .before .before .before in
@@ -30,7 +30,7 @@ room c =
 loop-holds : tie.Need-loop-holds Inv-loop μ-loop
 loop-holds c =
     let s = c .before .before in
-    (omega arith, s .pre .0 .long, sym (matrix-self (s .args .n) (s .args .r .now) (s .pre .0)) ∙ column-none (s .args .n) (s .args .j) (rowIn places (s .args .col .now)) _)
+    (omega arith, s .pre .0 .long, sym (matrix-self (s .args .n) (s .args .r .now) (s .pre .0)) ∙ column-none (s .args .n) (s .args .j) (rowIn places (s .args .entries .now)) _)
 
 mul-weight-at : tie.Need-mul-weight-at Inv-loop μ-loop
 mul-weight-at c = omega (arith, room c)
@@ -64,8 +64,8 @@ loop-again c =
     let l = c .before .before .before .before .before .before in
     let s = l .before .before .before in
     let w = c .before .before .before .before .weight-at in
-    let e = column-more (s .args .n) (s .args .j) (rowIn places (s .args .col .now)) (matrixIn places (s .args .n) (s .args .r .now)) (l .loop .i) (l .loop .r) _ (weightOf (w .result)) (c .before .before .before .before .before .loop-test .taken) (s .pre .1) (l .loop .inv .2)
-    (w .ensures ∙ sym (cell-is (s .args .col .now) (l .loop .i * weightWords)))
+    let e = column-more (s .args .n) (s .args .j) (rowIn places (s .args .entries .now)) (matrixIn places (s .args .n) (s .args .r .now)) (l .loop .i) (l .loop .r) _ (weightOf (w .result)) (c .before .before .before .before .before .loop-test .taken) (s .pre .1) (l .loop .inv .2)
+    (w .ensures ∙ sym (cell-is (s .args .entries .now) (l .loop .i * weightWords)))
     (c .before .before .write-at .ensures ∙ write-is (l .loop .r) (entryPlace (s .args .n) (l .loop .i) (s .args .j)) _ (omega (arith, room (c .before .before .before .before .before)))) in
     (omega arith, ap length e ∙ length-matrix (s .args .n) _, e)
 
@@ -75,7 +75,7 @@ same-length c = omega (arith, c .before .before .before .before .pre .0 .long)
 returns : tie.Need-returns Inv-loop μ-loop
 returns c =
     let s = c .before .before .before .before in
-    c .before .loop .inv .2 ∙ column-all (s .args .n) (s .args .j) (rowIn places (s .args .col .now)) (matrixIn places (s .args .n) (s .args .r .now)) (c .before .loop .i) (omega arith)
+    c .before .loop .inv .2 ∙ column-all (s .args .n) (s .args .j) (rowIn places (s .args .entries .now)) (matrixIn places (s .args .n) (s .args .r .now)) (c .before .loop .i) (omega arith)
 
 pub write-column-spec : {M : Type 1} → statement M
 write-column-spec =

@@ -11,10 +11,10 @@ use Rattle.contents.proofs.writing.fill.Statement.{statement}
 use Rattle.contents.proofs.writing.fill.Tie as tie
 
 abbrev Inv-loop : tie.InvT-loop
-Inv-loop file h list first count r₀ mode len at₀ e₀ r at e = (e ≤ count) × (at ≡ first + e * lengthOf h list) × Stored file h list first e r₀ r
+Inv-loop file h list first count r₀ mode size at₀ e₀ r at e = (e ≤ count) × (at ≡ first + e * lengthOf h list) × Stored file h list first e r₀ r
 
 abbrev μ-loop : tie.MeasureT-loop
-μ-loop file h list first count r₀ mode len at₀ e₀ r at e = count - e
+μ-loop file h list first count r₀ mode size at₀ e₀ r at e = count - e
 
 size-of-requires : tie.Need-size-of-requires Inv-loop μ-loop
 size-of-requires c κs = search needs

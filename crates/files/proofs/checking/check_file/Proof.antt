@@ -7,7 +7,7 @@ use Rattle.files.proofs.checking.check_file.Tie as tie
 
 returns : tie.Need-returns
 unfolding fileRead
-returns c = (rw (lt-leb _ _ (c .if1 .taken)), tt)
+returns c = (rw (lt-leb 4 _ (c .if1 .taken)), tt)
 
 four-requires : tie.Need-four-requires
 four-requires c κs = search needs

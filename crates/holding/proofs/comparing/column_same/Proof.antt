@@ -14,15 +14,15 @@ use Rattle.holding.proofs.comparing.column_same.Statement.{statement}
 use Rattle.holding.proofs.comparing.column_same.Tie as tie
 
 abbrev Inv-loop : tie.InvT-loop
-Inv-loop n col s j i₀ i = (i ≤ n) × (every i (heldAt n s col j) ≡ true)
+Inv-loop n entries s j i₀ i = (i ≤ n) × (every i (heldAt n s entries j) ≡ true)
 
 abbrev μ-loop : tie.MeasureT-loop
-μ-loop n col s j i₀ i = n - i
+μ-loop n entries s j i₀ i = n - i
 
 -- the entry lies within the matrix, and within the column
 room : (t : tie.Start Inv-loop μ-loop) (i : ℕ) → i < t .args .n
-    → (entryPlace (t .args .n) i (t .args .j) + weightWords ≤ length (t .args .s .now)) × (length (t .args .s .now) ≤ 1024) × (i * weightWords + weightWords ≤ length (t .args .col .now))
-room t i h = rooms (t .args .n) i (t .args .j) (t .args .s .now) (t .args .col .now) (t .pre .0) (t .pre .2) h (t .pre .1)
+    → (entryPlace (t .args .n) i (t .args .j) + weightWords ≤ length (t .args .s .now)) × (length (t .args .s .now) ≤ 1024) × (i * weightWords + weightWords ≤ length (t .args .entries .now))
+room t i h = rooms (t .args .n) i (t .args .j) (t .args .s .now) (t .args .entries .now) (t .pre .0) (t .pre .2) h (t .pre .1)
 
 loop-holds : tie.Need-loop-holds Inv-loop μ-loop
 loop-holds c = (omega arith, every-none _)
@@ -51,7 +51,7 @@ returns : tie.Need-returns Inv-loop μ-loop
 returns c =
     let l = c .before .before .before in
     let a = c .before .before .before .before .before .before .args in
-    sym (every-false (heldAt (a .n) (a .s .now) (a .col .now) (a .j)) (a .n) (l .loop .i) (c .before .before .loop-test .taken) (sym (c .before .same-words .ensures) ∙ not-true _ (c .if1 .taken)))
+    sym (every-false (heldAt (a .n) (a .s .now) (a .entries .now) (a .j)) (a .n) (l .loop .i) (c .before .before .loop-test .taken) (sym (c .before .same-words .ensures) ∙ not-true _ (c .if1 .taken)))
 
 add-i : tie.Need-add-i Inv-loop μ-loop
 add-i c = let f = c .before .before .before .before .before .before .pre .0 .few in omega arith
@@ -63,13 +63,13 @@ loop-again : tie.Need-loop-again Inv-loop μ-loop
 loop-again c =
     let l = c .before .before .before in
     let a = c .before .before .before .before .before .before .args in
-    (omega arith, every-more (heldAt (a .n) (a .s .now) (a .col .now) (a .j)) (l .loop .i) (l .loop .inv .1) (sym (c .before .same-words .ensures) ∙ not-false _ (c .if1 .left)))
+    (omega arith, every-more (heldAt (a .n) (a .s .now) (a .entries .now) (a .j)) (l .loop .i) (l .loop .inv .1) (sym (c .before .same-words .ensures) ∙ not-false _ (c .if1 .left)))
 
 returns-2 : tie.Need-returns-2 Inv-loop μ-loop
 returns-2 c =
     let a = c .before .before .before .before .args in
     let e : c .before .loop .i ≡ a .n = omega arith in
-    sym (ap (λ (m : ℕ). every m (heldAt (a .n) (a .s .now) (a .col .now) (a .j))) (sym e) ∙ c .before .loop .inv .1)
+    sym (ap (λ (m : ℕ). every m (heldAt (a .n) (a .s .now) (a .entries .now) (a .j))) (sym e) ∙ c .before .loop .inv .1)
 
 pub column-same-spec : {M : Type 1} → statement M
 column-same-spec =

@@ -73,25 +73,25 @@ returns : tie.Need-returns
 returns c =
     let t = c .before .before .before .before .before .before .before .before .before in
     let a = t .args in
-    first-differs (a .s .now) (a .col .now) (a .at) (a .from) (t .pre .0) (t .pre .1) (search (needs, c .if1 .taken))
+    first-differs (a .s .now) (a .entries .now) (a .at) (a .from) (t .pre .0) (t .pre .1) (search (needs, c .if1 .taken))
 
 returns-2 : tie.Need-returns-2
 returns-2 c =
     let t = c .before .before .before .before .before .before .before .before .before .before in
     let a = t .args in
-    second-differs (a .s .now) (a .col .now) (a .at) (a .from) (t .pre .0) (t .pre .1) (c .before .if1 .left) (c .if2 .taken)
+    second-differs (a .s .now) (a .entries .now) (a .at) (a .from) (t .pre .0) (t .pre .1) (c .before .if1 .left) (c .if2 .taken)
 
 returns-3 : tie.Need-returns-3
 returns-3 c =
     let t = c .before .before .before .before .before .before .before .before .before .before .before in
     let a = t .args in
-    third-differs (a .s .now) (a .col .now) (a .at) (a .from) (t .pre .0) (t .pre .1) (c .before .before .if1 .left) (c .before .if2 .left) (c .if3 .taken)
+    third-differs (a .s .now) (a .entries .now) (a .at) (a .from) (t .pre .0) (t .pre .1) (c .before .before .if1 .left) (c .before .if2 .left) (c .if3 .taken)
 
 returns-4 : tie.Need-returns-4
 returns-4 c =
     let t = c .before .before .before .before .before .before .before .before .before .before .before in
     let a = t .args in
-    fourth-decides (a .s .now) (a .col .now) (a .at) (a .from) (t .pre .0) (t .pre .1) (c .before .before .if1 .left) (c .before .if2 .left) (c .if3 .left)
+    fourth-decides (a .s .now) (a .entries .now) (a .at) (a .from) (t .pre .0) (t .pre .1) (c .before .before .if1 .left) (c .before .if2 .left) (c .if3 .left)
 
 pub same-words-spec : {M : Type 1} → statement M
 same-words-spec =

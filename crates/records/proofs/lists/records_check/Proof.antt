@@ -10,10 +10,10 @@ use Rattle.records.proofs.lists.records_check.Statement.{statement}
 use Rattle.records.proofs.lists.records_check.Tie as tie
 
 abbrev Inv-loop : tie.InvT-loop
-Inv-loop file h list first count mode len at₀ low₀ e₀ at low e = (e ≤ count) × (at ≤ first + e * 12) × (recordsCheck file h list first 0 count ≡ recordsCheck file h list at low (count - e))
+Inv-loop file h list first count mode size at₀ low₀ e₀ at low e = (e ≤ count) × (at ≤ first + e * 12) × (recordsCheck file h list first 0 count ≡ recordsCheck file h list at low (count - e))
 
 abbrev μ-loop : tie.MeasureT-loop
-μ-loop file h list first count mode len at₀ low₀ e₀ at low e = count - e
+μ-loop file h list first count mode size at₀ low₀ e₀ at low e = count - e
 
 record-length-requires : tie.Need-record-length-requires Inv-loop μ-loop
 record-length-requires c κs = search needs
