@@ -4,18 +4,21 @@
 use std::path::{Path, PathBuf};
 use std::{env, fs, process};
 
-const CRATES: [&str; 21] = [
+const CRATES: [&str; 24] = [
     "refusals",
     "numbers",
     "weights",
+    "placing",
     "words",
     "laws",
     "matrices",
     "modes",
+    "arcs",
     "rows",
     "columns",
     "holding",
     "tables",
+    "sums",
     "routes",
     "steps",
     "forwarding",

@@ -1,4 +1,4 @@
--- One mode inside another: a map of entries that keeps better, apply and empty keeps the forwarding sum and the forwarding equation's right side.
+-- One mode inside another: a map of entries that keeps better, apply and empty keeps the forwarding sum.
 use Prim.Native.Nat.{ℕ, zero, suc, _<_}
 use mathlib.Core.Path.{_≡_, sym, _∙_, ap₂}
 use mathlib.Core.Bool.{Bool, true, false, cond}
@@ -6,7 +6,7 @@ use native.Mathlib.Omega.{arith}
 use Rattle.algebra.specs.Algebra.{Algebra}
 use Rattle.algebra.specs.Order.{pick, bestOf}
 use Rattle.algebra.specs.Path.{Matrix}
-use Rattle.algebra.specs.Modes.{Mode, Table, carried, forwarded, onward}
+use Rattle.algebra.specs.Modes.{Mode, Table, carried, forwarded}
 use Rattle.algebra.proofs.Embedding.{GoesTo}
 
 -- On entries of a kind L, to which weights of a kind K are applied, g keeps what a mode is made of; the weights are mapped by h.
@@ -55,7 +55,3 @@ module _ (𝓐 𝓑 : Algebra) (K : 𝓐 .Weight → Type 0) (h : 𝓐 .Weight �
     pub forwarded-leads : (i d : ℕ) → i < n → d < m → forwarded 𝓐 𝓜 n R M i d ⇒ forwarded 𝓑 𝓝 n S T i d
     unfolding forwarded
     forwarded-leads i d hi hd = bestOf-leads n (carried 𝓐 𝓜 R M i d) (carried 𝓑 𝓝 S T i d) (𝓜 .empty) (𝓝 .empty) (λ k hk. carried-leads i d k hi hd hk) record { kind = C .empty-in; to = C .of-empty }
-
-    pub onward-leads : (M₀ : Table 𝓐 𝓜) (T₀ : Table 𝓑 𝓝) → ((i d : ℕ) → i < n → d < m → M₀ i d ⇒ T₀ i d) → (i d : ℕ) → i < n → d < m → onward 𝓐 𝓜 n R M₀ M i d ⇒ onward 𝓑 𝓝 n S T₀ T i d
-    unfolding onward
-    onward-leads M₀ T₀ start i d hi hd = bestOf-leads n (carried 𝓐 𝓜 R M i d) (carried 𝓑 𝓝 S T i d) (M₀ i d) (T₀ i d) (λ k hk. carried-leads i d k hi hd hk) (start i d hi hd)

@@ -10,13 +10,12 @@ use borrow.Author.Tests.{eqb-true, eq-eqb}
 use Rattle.algebra.specs.Algebra.{Algebra, order}
 use Rattle.algebra.specs.Path.{Below, end, Simple, Matrix, ValidMatrix, pathWeight}
 use Rattle.algebra.specs.Network.{Network}
-use Rattle.algebra.specs.Best.{OfSimplePath, Best, best}
+use Rattle.algebra.specs.Best.{OfSimplePath, Best}
 use Rattle.algebra.specs.Step.{fresh, through, Solves}
 use Rattle.algebra.specs.Modes.{Mode, Table, ValidTable, carried, forwarded, onward, Forwards, BestForwarded, SemiModule}
 use Rattle.algebra.proofs.Orders.{NoWorse, nw-trans, nw-antisym, bestOf-is, Chosen}
-use Rattle.algebra.proofs.Bests.{best-is, held-valid, simple-valid}
+use Rattle.algebra.proofs.Bests.{held-valid, simple-valid}
 use Rattle.algebra.proofs.Column.{routed-is}
-use Rattle.algebra.proofs.Reach.{best-solves}
 
 -- ---- what a weight applied to entries keeps
 
@@ -166,7 +165,3 @@ module _ (N : Network) (𝓜 : Mode (N .𝓐)) (𝓢 : SemiModule (N .𝓐) 𝓜
           where
             o : k < n
             o = subst (λ (x : ℕ). x < n) (s .ends) (end-below n i p (s .below))
-
-  -- The best matrix satisfies the routing equation, so its forwarding sum satisfies the forwarding equation.
-  pub best-forwarding : Forwards 𝓐 𝓜 n m A M (forwarded 𝓐 𝓜 n (best 𝓐 n A) M)
-  best-forwarding = forwarding N 𝓜 𝓢 (best 𝓐 n A) (R-valid (best 𝓐 n A) (λ i j h l. best-is N i j h)) (best-solves N) m M M-valid

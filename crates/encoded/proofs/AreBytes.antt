@@ -1,7 +1,7 @@
 -- The file of a sound problem is a file: every element of it is a byte.
 use Prim.Native.Nat.{ℕ, zero, suc, _+_, _*_, _/_, _%_, _≤_}
 use mathlib.Core.Path.{_≡_, refl, ap}
-use mathlib.Core.Bool.{Bool, true, false, cond}
+use mathlib.Core.Bool.{Bool, true, false, cond, and-eq-true-iff}
 use mathlib.Core.List.{List, [], _∷_, _++_}
 use native.Mathlib.Omega.{arith}
 use borrow.Author.Tests.{leb-true}
@@ -15,7 +15,6 @@ use Rattle.weights.specs.Values.{AllAtMost}
 use Rattle.weights.specs.Words.{inRange}
 use Rattle.records.specs.declared.Listing.{Listing}
 use Rattle.records.specs.declared.Listing.the-variants.{Arcs, Attachments}
-use Rattle.fields.proofs.Passing.{and-both}
 use Rattle.encoded.specs.Encode.{ListEntry, Problem, SoundValues, SoundOutside, noOutside, SoundEntries, SoundProblem, Nesting, one, product, nested, bytes2, bytes4, componentBytes, languageBytes, valueBytes, outsideBytes, entryBytes, entriesBytes, listBytes, bodyBytes, encode}
 use Rattle.encoded.specs.Taken.{AreBytes}
 use Rattle.encoded.proofs.Entries.{length-values, sound-length}
@@ -70,7 +69,7 @@ language-length (product x y) =
 
 value-small : (c : Component) (v : ℕ) → SmallLimit 65535 c → inRange arcSum c v ≡ true → v ≤ 65535
 value-small Dist v h e = leb-true v arcSum e
-value-small (Width w) v h e = omega (arith, h, leb-true v w (and-both (leb 1 v) (leb v w) e .1))
+value-small (Width w) v h e = omega (arith, h, leb-true v w (and-eq-true-iff (leb 1 v) (leb v w) .0 e .1))
 value-small (Class k) v h e = omega (arith, h, leb-true v k e)
 value-small Gain v h e = leb-true v arcSum e
 

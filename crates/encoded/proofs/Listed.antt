@@ -2,13 +2,12 @@
 use Prim.Native.Nat.{ℕ, _+_, _*_, _<_}
 use mathlib.Core.Path.{_≡_, refl, ap, _∙_}
 use mathlib.Core.List.{List, [], _∷_, _++_}
-use mathlib.Core.Bool.{Bool, true, false, cond, _&&_}
+use mathlib.Core.Bool.{Bool, true, false, cond, _&&_, and-eq-true-iff}
 use native.Mathlib.Omega.{arith}
 use borrow.Author.Tests.{eqb-true, eq-eqb}
 use lib.Dec.{eqb}
 use Rattle.weights.specs.declared.Component.{Component}
 use Rattle.records.specs.declared.Listing.{Listing}
-use Rattle.fields.proofs.Passing.{and-both}
 use Rattle.encoded.specs.Encode.{ListEntry, SoundEntries, wordsListed, put, Unlisted}
 
 module _ (n columns mode : ℕ) (cs : List Component) (list : Listing) where
@@ -22,7 +21,7 @@ module _ (n columns mode : ℕ) (cs : List Component) (list : Listing) where
       go : (b : Bool) → (eqb i (e .row) && eqb j (e .column)) ≡ b → cond b (wordsListed list e) ws ≡ ws
       go false q = refl
       go true q =
-          let t = and-both (eqb i (e .row)) (eqb j (e .column)) q in
+          let t = and-eq-true-iff (eqb i (e .row)) (eqb j (e .column)) .0 q in
           absurd (omega (arith, eqb-true i (e .row) (t .0), eqb-true j (e .column) (t .1), l, ok .0 .after))
 
   -- at a listed pair stand the words of its entry

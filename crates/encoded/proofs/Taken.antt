@@ -2,7 +2,7 @@
 use Prim.Native.Nat.{ℕ, suc, _+_, _-_, _*_, _/_, _%_, _≤_, _<_}
 use mathlib.Core.Path.{_≡_, refl, sym, ap, _∙_, subst}
 use mathlib.Core.List.{List, [], _∷_, _++_, append-assoc, append-nil}
-use mathlib.Core.Bool.{Bool, true, false, cond}
+use mathlib.Core.Bool.{Bool, true, false, cond, and-eq-true-iff}
 use native.Mathlib.Omega.{arith}
 use borrow.Author.Tests.{eqb-true, eq-eqb, ne-eqb, leb-true}
 use lib.Dec.{leb, eqb}
@@ -11,6 +11,7 @@ use Rattle.refusals.specs.declared.Refusal.{Refusal}
 use Rattle.refusals.specs.declared.Refusal.the-variants.{Bytes as Cut, Version, Size}
 use Rattle.refusals.specs.declared.Check.{Check}
 use Rattle.refusals.specs.declared.Check.the-variants.{Passed, Refused}
+use Rattle.refusals.proofs.First.{unless-passes, both-pass}
 use Rattle.weights.specs.declared.Component.{Component}
 use Rattle.weights.specs.declared.Language.{Language}
 use Rattle.weights.specs.Sizes.{places, productTags}
@@ -27,17 +28,14 @@ use Rattle.fields.specs.Nested.{nothing, languageAt}
 use Rattle.fields.specs.Header.{fieldCheck, modeFieldCheck, fieldsCheck, headFrom, headRead}
 use Rattle.records.specs.Records.{recordListCheck, listEnd, bodyCheck}
 use Rattle.files.specs.File.{countRight, headOnceChecked, withBody, fileRead}
-use Rattle.fields.proofs.Passing.{both-pass, unless-passes, and-both, field-passes}
-use Rattle.files.proofs.Bodies.{checked-body}
+use Rattle.fields.proofs.Passing.{field-passes}
+use Rattle.files.proofs.Bodies.{checked-body, never-sound}
 use Rattle.encoded.specs.Encode.{Problem, SoundEntries, Nesting, nested, bytes2, languageBytes, listBytes, bodyBytes, encode, languageWith}
 use Rattle.encoded.specs.Taken.{AreBytes, Encoded}
 use Rattle.encoded.proofs.Here.{found-language, language-has, one-more-component}
 use Rattle.encoded.proofs.Entries.{Counted}
 use Rattle.encoded.proofs.TakenLanguage.{one-more, two-more, two-small, language-of}
 use Rattle.encoded.proofs.TakenLists.{list-of}
-
-never-sound : {X : Type 0} {r : Refusal} {next : ℕ} {h : Head} → Faulty r ≡ Sound next h → X
-never-sound e = let z : _≡_ {A = ℕ} 0 1 = cc in absurd (omega arith)
 
 -- ---- the head
 
@@ -124,7 +122,7 @@ fields-at s e =
 front : (s : List ℕ) (p : Problem) (t : Nesting) → AreBytes s → countRight s ≡ true → drop 4 s ≡ bodyBytes p t → s ≡ encode p t
 unfolding encode
 front s p t by c b =
-    let f = and-both (leb 4 (length s)) (eqb (fourAt s 0) (length s - 4)) c in
+    let f = and-eq-true-iff (leb 4 (length s)) (eqb (fourAt s 0) (length s - 4)) .0 c in
     let room : 4 ≤ length s = leb-true 4 (length s) (f .0) in
     let long : length (bodyBytes p t) ≡ twoAt s 0 * 65536 + twoAt s 2 = sym (ap length b) ∙ length-drop 4 s ∙ sym (eqb-true (fourAt s 0) (length s - 4) (f .1)) in
     let hi : length (bodyBytes p t) / 65536 ≡ twoAt s 0 = omega (arith, long, two-small s 2 by) in

@@ -11,6 +11,7 @@ use lib.ListN.{length, getD, drop}
 use Rattle.refusals.specs.declared.Refusal.the-variants.{Bytes as Cut, NotAscending, Value}
 use Rattle.refusals.specs.declared.Check.the-variants.{Passed}
 use Rattle.refusals.specs.Checks.{unless}
+use Rattle.refusals.proofs.First.{unless-passes, both-pass}
 use Rattle.weights.specs.declared.Component.{Component}
 use Rattle.weights.specs.Sizes.{arcSum}
 use Rattle.weights.specs.Languages.{componentsOf}
@@ -22,7 +23,6 @@ use Rattle.bytes.specs.Bytes.{twoAt}
 use Rattle.records.specs.Records.{recordLength, lengthOf, endsAt, endsCheck, valuesCheck, recordCheck, recordsCheck, recordListCheck, listEnd}
 use Rattle.contents.specs.Contents.{columns, valuesAt, outsideAt}
 use Rattle.records.specs.Parts.{InRange}
-use Rattle.fields.proofs.Passing.{both-pass, unless-passes}
 use Rattle.records.proofs.Listed.{record-ends}
 use Rattle.encoded.specs.Encode.{ListEntry, SoundValues, SoundOutside, noOutside, bytes2, valueBytes, outsideBytes, entryBytes, entriesBytes, listBytes}
 use Rattle.encoded.specs.Taken.{AreBytes}

@@ -13,16 +13,17 @@ use Rattle.refusals.specs.declared.Refusal.the-variants.{Bytes as Cut, NotAscen
 use Rattle.refusals.specs.declared.Check.the-variants.{Passed}
 use Rattle.refusals.specs.Checks.{unless}
 use Rattle.refusals.proofs.OneToOne.{told-not-done}
+use Rattle.refusals.proofs.First.{both-pass}
 use Rattle.weights.specs.declared.Component.{Component}
 use Rattle.weights.specs.declared.Component.the-variants.{Dist, Width, Class, Gain}
 use Rattle.weights.specs.declared.Language.{Language}
 use Rattle.weights.specs.Sizes.{arcSum}
-use Rattle.weights.specs.Weights.{none, route, ValidValue, ValidValues, Sound as SoundLimits}
+use Rattle.weights.specs.Weights.{none, route, ValidValues, Sound as SoundLimits}
 use Rattle.weights.specs.Languages.{componentsOf}
-use Rattle.weights.specs.Words.{words, inRange, good, reading, isGood}
+use Rattle.weights.specs.Words.{words, good, reading, isGood}
 use Rattle.weights.proofs.Checking.{few, count-in, limits-exact}
 use Rattle.weights.specs.Written.{SumsUpTo, NotOnes}
-use Rattle.weights.proofs.Readings.{reads-words}
+use Rattle.weights.proofs.Readings.{reads-words, in-range-valid}
 use Rattle.fields.specs.declared.Head.{Head}
 use Rattle.fields.specs.declared.HeadRead.{HeadRead}
 use Rattle.fields.specs.declared.HeadRead.the-variants.{Sound, Refused as Faulty}
@@ -34,7 +35,6 @@ use Rattle.records.specs.Records.{lengthOf, endsAt, endsCheck, valuesCheck, rec
 use Rattle.files.specs.File.{fileRead}
 use Rattle.contents.specs.Contents.{wordsEach, columns, sizeOf, valuesAt, recordWeight, outsideAt, recordWords, isAt, listedWords, listedTable, listOver}
 use Rattle.files.specs.Answers.{Row, readSaid, headRow, refusedRow, sized, arcsOver, mappingOver, ReadSays}
-use Rattle.fields.proofs.Passing.{both-pass, and-both}
 use Rattle.contents.proofs.Storing.{listed-wide}
 use Rattle.files.proofs.Bodies.{checked-body}
 use Rattle.encoded.specs.Encode.{SoundValues, SoundOutside}
@@ -49,17 +49,11 @@ use Rattle.encoded.proofs.Cells.{entry-at}
 
 -- ---- the values of records that pass
 
-value-valid : (c : Component) (v : ℕ) → inRange arcSum c v ≡ true → ValidValue c v
-value-valid Dist v e = tt
-value-valid (Width w) v e = let p = and-both (leb 1 v) (leb v w) e in (leb-true 1 v (p .0), leb-true v w (p .1))
-value-valid (Class k) v e = leb-true v k e
-value-valid Gain v e = tt
-
 values-valid : (cs : List Component) (vs : List ℕ) → SoundValues cs vs → ValidValues cs vs
 values-valid [] [] h = tt
 values-valid [] (v ∷ vs) h = absurd h
 values-valid (c ∷ cs) [] h = absurd h
-values-valid (c ∷ cs) (v ∷ vs) h = (value-valid c v (h .0), values-valid cs vs (h .1))
+values-valid (c ∷ cs) (v ∷ vs) h = (in-range-valid arcSum c v (h .0), values-valid cs vs (h .1))
 
 values-sums : (cs : List Component) (vs : List ℕ) → SoundValues cs vs → SumsUpTo arcSum cs vs
 values-sums [] vs h = tt

@@ -1,41 +1,23 @@
--- Laws of the checks: what it says that one passes.
+-- The checks of the header: what it says that they pass.
 use Prim.Native.Nat.{ℕ, _≤_, _<_}
-use mathlib.Core.Path.{_≡_, refl, sym}
+use mathlib.Core.Path.{_≡_}
 use mathlib.Core.List.{List}
-use mathlib.Core.Bool.{Bool, true, false, _&&_}
-use native.Mathlib.Omega.{arith}
+use mathlib.Core.Bool.{and-eq-true-iff}
 use borrow.Author.Tests.{leb-true, ltb-true}
 use lib.Dec.{ltb, leb}
 use lib.ListN.{length, getD}
 use Rattle.refusals.specs.declared.Refusal.{Refusal}
 use Rattle.refusals.specs.declared.Refusal.the-variants.{Bytes, Version, Size}
-use Rattle.refusals.specs.declared.Check.{Check}
-use Rattle.refusals.specs.declared.Check.the-variants.{Passed, Refused}
-use Rattle.refusals.specs.Checks.{unless, orElse}
-use Rattle.refusals.proofs.First.{passed-not}
+use Rattle.refusals.specs.declared.Check.the-variants.{Passed}
+use Rattle.refusals.specs.Checks.{unless}
+use Rattle.refusals.proofs.First.{unless-passes, both-pass}
 use Rattle.fields.specs.Header.{fieldCheck, modeFieldCheck, fieldsCheck}
-
-pub both-pass : (x y : Check) → orElse x y ≡ Passed → (x ≡ Passed) × (y ≡ Passed)
-both-pass Passed y e = (refl, e)
-both-pass (Refused r) y e = absurd (passed-not r (sym e))
-
-pub or-passed : (x : Check) → orElse x Passed ≡ x
-or-passed Passed = refl
-or-passed (Refused r) = refl
-
-pub unless-passes : (ok : Bool) (r : Refusal) → unless ok r ≡ Passed → ok ≡ true
-unless-passes true r e = refl
-unless-passes false r e = absurd (passed-not r (sym e))
-
-pub and-both : (x y : Bool) → (x && y) ≡ true → (x ≡ true) × (y ≡ true)
-and-both true y e = (refl, e)
-and-both false y e = let z : _≡_ {A = ℕ} 0 1 = cc in absurd (omega arith)
 
 pub field-passes : (s : List ℕ) (at : ℕ) (r : Refusal) (lo hi : ℕ) → fieldCheck s at r lo hi ≡ Passed → (at < length s) × (lo ≤ getD s at 0) × (getD s at 0 ≤ hi)
 unfolding fieldCheck
 field-passes s at r lo hi e =
     let f = both-pass (unless (ltb at (length s)) (Bytes 0 at)) _ e in
-    let g = and-both (leb lo (getD s at 0)) (leb (getD s at 0) hi) (unless-passes _ r (f .1)) in
+    let g = and-eq-true-iff (leb lo (getD s at 0)) (leb (getD s at 0) hi) .0 (unless-passes _ r (f .1)) in
     (ltb-true _ _ (unless-passes _ (Bytes 0 at) (f .0)), leb-true _ _ (g .0), leb-true _ _ (g .1))
 
 -- the numbers of a header that passes are small

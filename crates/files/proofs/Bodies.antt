@@ -15,7 +15,8 @@ use Rattle.fields.specs.Header.{headRead}
 use Rattle.records.specs.Records.{bodyCheck}
 use Rattle.files.specs.File.{countRight, headOnceChecked, withBody, fileRead}
 
-never-sound : {X : Type 0} {r : Refusal} {next : ℕ} {h : Head} → Faulty r ≡ Sound next h → X
+-- a head that is refused is not taken
+pub never-sound : {X : Type 0} {r : Refusal} {next : ℕ} {h : Head} → Faulty r ≡ Sound next h → X
 never-sound e = let z : _≡_ {A = ℕ} 0 1 = cc in absurd (omega arith)
 
 -- the body of a file that passes passes

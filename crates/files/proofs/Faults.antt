@@ -1,8 +1,8 @@
 -- Demand 1 of the reader: it gives a refusal exactly in its case, the first fault in the order of the file.
 use Prim.Native.Nat.{ℕ, zero, suc, _+_, _-_, _≤_, _<_}
 use mathlib.Core.Path.{_≡_, refl, sym, ap, _∙_}
-use mathlib.Core.Bool.{Bool, true, false, cond}
-use mathlib.Core.Logic.{_⊎_, inl, inr, _↔_}
+use mathlib.Core.Bool.{Bool, true, false, cond, and-eq-true-iff}
+use mathlib.Core.Logic.{_⊎_, inl, inr, _↔_, Iff·trans}
 use mathlib.Core.List.{List}
 use native.Mathlib.Omega.{arith}
 use borrow.Author.Tests.{leb-true, leb-false, le-leb, eqb-true, eq-eqb, ltb-true, ltb-false}
@@ -15,7 +15,7 @@ use Rattle.refusals.specs.declared.Check.the-variants.{Passed, Refused}
 use Rattle.refusals.specs.Told.{told}
 use Rattle.refusals.specs.Checks.{unless, orElse, firstOf, Pass, Gives}
 use Rattle.refusals.proofs.OneToOne.{told-one, told-not-done}
-use Rattle.refusals.proofs.First.{passed-not, first-exactly, first-passes, pass-first}
+use Rattle.refusals.proofs.First.{passed-not, refused-one, first-exactly, first-passes, pass-first, or-passed}
 use Rattle.weights.specs.Languages.{componentsOf}
 use Rattle.weights.proofs.Ordering.{clash}
 use Rattle.fields.specs.declared.Head.{Head}
@@ -26,7 +26,6 @@ use Rattle.fields.specs.declared.LanguageRead.the-variants.{Taken, Refused as N
 use Rattle.bytes.specs.Bytes.{twoAt, fourAt}
 use Rattle.fields.specs.Nested.{nothing, languageAt}
 use Rattle.fields.specs.Header.{fieldsCheck, modeFieldCheck, headFrom, headRead}
-use Rattle.fields.proofs.Passing.{or-passed, and-both}
 use Rattle.records.specs.declared.Listing.{Listing}
 use Rattle.records.specs.declared.Listing.the-variants.{Arcs, Attachments}
 use Rattle.records.specs.Records.{lengthOf, valuesCheck, recordCheck, recordsCheck, recordListCheck, listEnd, endCheck, bodyCheck}
@@ -48,16 +47,13 @@ or-exactly (Refused s) d r = (λ e. inl e, back)
     back (inl e) = e
     back (inr p) = absurd (passed-not s (sym (p .0)))
 
-refusal-is : {r s : Refusal} → Refused r ≡ Refused s → r ≡ s
-refusal-is e = cc
-
 -- a list has an end, or a byte, where a number of bytes is there
 room-exactly : (a b : ℕ) (x r : Refusal) → (unless (leb a b) x ≡ Refused r) ↔ ((b < a) × (r ≡ x))
 room-exactly a b x r = go (leb a b) refl
   where
     go : (t : Bool) → leb a b ≡ t → (unless t x ≡ Refused r) ↔ ((b < a) × (r ≡ x))
     go true q = (λ e. absurd (passed-not r e), λ p. (let l = leb-true a b q in absurd (omega arith)))
-    go false q = (λ e. (let l = leb-false a b q in (omega arith, sym (refusal-is e))), λ p. ap Refused (sym (p .1)))
+    go false q = (λ e. (let l = leb-false a b q in (omega arith, sym (refused-one e))), λ p. ap Refused (sym (p .1)))
 
 room-passes : (a b : ℕ) (x : Refusal) → (unless (leb a b) x ≡ Passed) ↔ (a ≤ b)
 room-passes a b x = go (leb a b) refl
@@ -80,9 +76,6 @@ not-taken-is e = cc
 
 -- ---- two ways of saying a thing
 
-follows : {P Q R : Type 0} → P ↔ Q → Q ↔ R → P ↔ R
-follows f g = (λ p. g .0 (f .0 p), λ r. f .1 (g .1 r))
-
 either : {P Q R S : Type 0} → P ↔ Q → R ↔ S → (P ⊎ R) ↔ (Q ⊎ S)
 either {P} {Q} {R} {S} f g = (there, back)
   where
@@ -104,16 +97,16 @@ itself : {P : Type 0} → P ↔ P
 itself = (λ p. p, λ p. p)
 
 list-gives : (c : Check) (cs : List Check) (r : Refusal) → c ≡ firstOf cs → (c ≡ Refused r) ↔ Gives cs r
-list-gives c cs r e = follows (same-as e) (first-exactly cs r)
+list-gives c cs r e = Iff·trans (same-as e) (first-exactly cs r)
 
 list-passes : (c : Check) (cs : List Check) → c ≡ firstOf cs → (c ≡ Passed) ↔ Pass cs
-list-passes c cs e = follows (same-as e) (λ p. first-passes cs p, λ q. pass-first cs q)
+list-passes c cs e = Iff·trans (same-as e) (λ p. first-passes cs p, λ q. pass-first cs q)
 
 head-from : (c : Check) (s : List ℕ) (l : LanguageRead) (r : Refusal) → (headFrom c s l ≡ Faulty r) ↔ ((c ≡ Refused r) ⊎ ((c ≡ Passed) × (l ≡ NotTaken r)))
 head-from (Refused x) s l r = (λ e. inl (ap Refused (faulty-is e)), back)
   where
     back : ((Refused x ≡ Refused r) ⊎ ((Refused x ≡ Passed) × (l ≡ NotTaken r))) → Faulty x ≡ Faulty r
-    back (inl e) = ap Faulty (refusal-is e)
+    back (inl e) = ap Faulty (refused-one e)
     back (inr p) = absurd (passed-not x (sym (p .0)))
 head-from Passed s (NotTaken x) r = (λ e. inr (refl, ap NotTaken (faulty-is e)), back)
   where
@@ -129,7 +122,7 @@ head-from Passed s (Taken next f) r = (λ e. (let z : _≡_ {A = ℕ} 0 1 = cc i
 head-exactly : (s : List ℕ) (r : Refusal) → (headRead s ≡ Faulty r) ↔ HeadGives s r
 unfolding headRead
 head-exactly s r =
-    follows (head-from (fieldsCheck s) s (languageAt s 8 nothing) r)
+    Iff·trans (head-from (fieldsCheck s) s (languageAt s 8 nothing) r)
     (either (list-gives (fieldsCheck s) (fieldChecks s) r (fields-list s)) (together (list-passes (fieldsCheck s) (fieldChecks s) (fields-list s)) itself))
 
 -- ---- the lists
@@ -143,14 +136,14 @@ module _ (s : List ℕ) (h : Head) (r : Refusal) where
   unfolding recordsCheck
   records-exactly list at low zero = (λ e. passed-not r e, λ g. absurd g)
   records-exactly list at low (suc count) =
-      follows (or-exactly (recordCheck s h list at low) (recordsCheck s h list (at + lengthOf h list) (twoAt s at + 1) count) r)
+      Iff·trans (or-exactly (recordCheck s h list at low) (recordsCheck s h list (at + lengthOf h list) (twoAt s at + 1) count) r)
       (either (list-gives (recordCheck s h list at low) (recordChecks s h list at low) r (record-list list at low))
       (together (list-passes (recordCheck s h list at low) (recordChecks s h list at low) (record-list list at low)) (records-exactly list (at + lengthOf h list) (twoAt s at + 1) count)))
 
   list-exactly : (list : Listing) (at : ℕ) → (recordListCheck s h list at ≡ Refused r) ↔ ListGives s h list at r
   unfolding recordListCheck
   list-exactly list at =
-      follows (or-exactly (unless (leb (at + 2) (length s)) (Bytes 0 at)) (recordsCheck s h list (at + 2) 0 (twoAt s at)) r)
+      Iff·trans (or-exactly (unless (leb (at + 2) (length s)) (Bytes 0 at)) (recordsCheck s h list (at + 2) 0 (twoAt s at)) r)
       (either (room-exactly (at + 2) (length s) (Bytes 0 at) r) (together (room-passes (at + 2) (length s) (Bytes 0 at)) (records-exactly list (at + 2) 0 (twoAt s at))))
 
   body-is : (at : ℕ) → bodyCheck s h at ≡ orElse (recordListCheck s h Arcs at) (orElse (recordListCheck s h Attachments (listEnd s h Arcs at)) (endCheck s (bodyEnd s h at)))
@@ -159,11 +152,11 @@ module _ (s : List ℕ) (h : Head) (r : Refusal) where
 
   body-exactly : (at : ℕ) → (bodyCheck s h at ≡ Refused r) ↔ BodyGives s h at r
   body-exactly at =
-      follows (same-as (body-is at))
-      (follows (or-exactly (recordListCheck s h Arcs at) (orElse (recordListCheck s h Attachments (listEnd s h Arcs at)) (endCheck s (bodyEnd s h at))) r)
+      Iff·trans (same-as (body-is at))
+      (Iff·trans (or-exactly (recordListCheck s h Arcs at) (orElse (recordListCheck s h Attachments (listEnd s h Arcs at)) (endCheck s (bodyEnd s h at))) r)
       (either (list-exactly Arcs at)
       (together itself
-      (follows (or-exactly (recordListCheck s h Attachments (listEnd s h Arcs at)) (endCheck s (bodyEnd s h at)) r)
+      (Iff·trans (or-exactly (recordListCheck s h Attachments (listEnd s h Arcs at)) (endCheck s (bodyEnd s h at)) r)
       (either (list-exactly Attachments (listEnd s h Arcs at)) (together itself (room-exactly (length s) (bodyEnd s h at) (Bytes 0 (bodyEnd s h at)) r)))))))
 
 -- ---- the file
@@ -190,7 +183,7 @@ body-after s r (Sound n k) = (λ e. inr (n, k, refl, checked (bodyCheck s k n) e
 
 count-exactly : (s : List ℕ) → (countRight s ≡ true) ↔ CountRight s
 count-exactly s = (
-  λ e. (let p = and-both (leb 4 (length s)) (eqb (fourAt s 0) (length s - 4)) e in (leb-true _ _ (p .0), eqb-true _ _ (p .1))),
+  λ e. (let p = and-eq-true-iff (leb 4 (length s)) (eqb (fourAt s 0) (length s - 4)) .0 e in (leb-true _ _ (p .0), eqb-true _ _ (p .1))),
   λ p. rw (le-leb _ _ (p .0), eq-eqb _ _ (p .1)),
 )
 
@@ -200,7 +193,7 @@ file-exactly s r = go (countRight s) refl
   where
     right : (withBody s (headRead s) ≡ Faulty r) ↔ (HeadGives s r ⊎ ((next : ℕ) × (h : Head) × (headRead s ≡ Sound next h) × BodyGives s h next r))
     right =
-        follows (body-after s r (headRead s))
+        Iff·trans (body-after s r (headRead s))
         (either (head-exactly s r) (λ (next, h, q, p). (next, h, q, body-exactly s h r next .0 p), λ (next, h, q, g). (next, h, q, body-exactly s h r next .1 g)))
 
     go : (b : Bool) → countRight s ≡ b → (cond b (withBody s (headRead s)) (Faulty (Bytes 0 0)) ≡ Faulty r) ↔ FileGives s r

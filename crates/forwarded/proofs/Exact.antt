@@ -4,7 +4,7 @@ use Prim.Native.Nat.{ℕ, zero, suc, _*_, _≤_}
 use mathlib.Core.Path.{_≡_, refl, sym, ap, subst, _∙_}
 use mathlib.Core.Bool.{Bool, true, false, not, cond, _||_, false≢true}
 use mathlib.Core.List.{List, [], _∷_, _++_}
-use mathlib.Core.Logic.{_⊎_, inl, inr, _↔_}
+use mathlib.Core.Logic.{_⊎_, inl, inr, _↔_, Iff·trans}
 use native.Mathlib.Omega.{arith}
 use borrow.Author.Tests.{leb-true, le-leb, eqb-true, eq-eqb}
 use lib.Dec.{leb, eqb}
@@ -18,7 +18,7 @@ use Rattle.refusals.specs.Told.{row, told}
 use Rattle.refusals.specs.Checks.{unless, firstOf, checkTold, Pass, Gives}
 use Rattle.refusals.proofs.OneToOne.{told-not-done}
 use Rattle.refusals.proofs.Exactly.{told-check}
-use Rattle.refusals.proofs.First.{passed-not, first-exactly, pass-first}
+use Rattle.refusals.proofs.First.{passed-not, first-exactly, pass-first, refused-one, unless-passes}
 use Rattle.algebra.specs.Step.{Solves}
 use Rattle.weights.specs.declared.Component.{Component}
 use Rattle.weights.specs.declared.Language.{Language}
@@ -45,9 +45,9 @@ use Rattle.tables.proofs.MalformedEntries as entries
 use Rattle.routes.specs.Checks.{nodesCheck, lengthCheck, lawDCheck, lawUCheck, arcsCheck, routesCheck}
 use Rattle.routes.specs.Calls.{matrixOf}
 use Rattle.routes.proofs.Bridge.{entry-valid}
-use Rattle.routes.proofs.Order.{refused-one, goes-on, nodes-passed, length-passed, unless-passes}
+use Rattle.routes.proofs.Order.{goes-on, nodes-passed, length-passed}
 use Rattle.routes.proofs.OneTeller.{Teller, checksOf, ofBuffer, one, earlier, checkAt, onlyTells, given-where}
-use Rattle.routes.proofs.Cases.{then, done-exactly, alone, eqb-exactly, nodes-case, length-case, law-D-missing, law-U-missing, law-U-after, nodesTeller, countTeller, limitTeller, lengthTeller, lawDTeller, lawUTeller, malformed-tell, matrixTeller}
+use Rattle.routes.proofs.Cases.{done-exactly, alone, eqb-exactly, nodes-case, length-case, law-D-missing, law-U-missing, law-U-after, nodesTeller, countTeller, limitTeller, lengthTeller, lawDTeller, lawUTeller, malformed-tell, matrixTeller}
 use Rattle.forwarding.specs.Checks.{mostDestinations, destinationsCheck, chosenCheck, chosenMode, modeCheck, tableLengthCheck, lawCCheck, mappingCheck, solvesCheck}
 use Rattle.forwarding.specs.Calls.{modeMeant, forwardChecks, forwardCheck}
 use Rattle.forwarding.proofs.Order.{destinations-passed, table-length-passed}
@@ -97,7 +97,7 @@ module _ (l : Language) (n m number : ℕ) (a r s f : List ℕ) where
 
   -- refusal x exactly where check k refuses it in its case and those before it pass
   exactly-at : (k : ℕ) (x : Refusal) → onlyTells k (told x) tellers ≡ true → {P : Type 0} → (Pass (checksOf (earlier k tellers)) → (checkAt k tellers ≡ Refused x) ↔ P) → (answer ≡ told x) ↔ (Pass (checksOf (earlier k tellers)) × P)
-  exactly-at k x only h = then (forward-refuses l n m number a r s f x) (given-where k tellers x only h)
+  exactly-at k x only h = Iff·trans (forward-refuses l n m number a r s f x) (given-where k tellers x only h)
 
   -- ---- 3, which 3
 

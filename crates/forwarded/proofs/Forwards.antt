@@ -11,7 +11,7 @@ use Rattle.refusals.specs.declared.Refusal.the-variants.{Equation}
 use Rattle.refusals.specs.declared.Check.{Check}
 use Rattle.refusals.specs.declared.Check.the-variants.{Passed}
 use Rattle.refusals.specs.Checks.{firstOf}
-use Rattle.refusals.proofs.First.{pass-first, first-passes}
+use Rattle.refusals.proofs.First.{pass-first, first-passes, unless-passes, both-pass}
 use Rattle.algebra.specs.Path.{ValidMatrix}
 use Rattle.algebra.specs.Step.{Solves}
 use Rattle.algebra.specs.Modes.{ValidTable, carried, forwarded, onward, Forwards, BestForwarded}
@@ -46,9 +46,9 @@ use Rattle.modes.proofs.SemiModules.{language-forwards, language-forwarded-best
 use Rattle.tables.proofs.TableBlocks.{table-five}
 use Rattle.routes.specs.Calls.{matrixOf}
 use Rattle.routes.proofs.Bridge.{check-pad, entry-valid, entry-padded}
-use Rattle.routes.proofs.Order.{nodes-passed, unless-passes}
+use Rattle.routes.proofs.Order.{nodes-passed}
 use Rattle.forwarding.specs.Calls.{tableOf, modeMeant, buffersChecks, argumentsChecks, forwardCheck, forwardingSum, forwardLeftBy, forwardLeft}
-use Rattle.forwarding.proofs.Order.{parts, destinations-passed, BuffersFormed, Ready, buffers-passed}
+use Rattle.forwarding.proofs.Order.{destinations-passed, BuffersFormed, Ready, buffers-passed}
 use Rattle.forwarding.proofs.Answers.{forward-order}
 use Rattle.forwarded.specs.Table.{left, EveryRouteBest, TableSays}
 use Rattle.forwarded.proofs.ReadBack.{entry-back, entry-sum}
@@ -136,7 +136,7 @@ module _ (l : Language) (n m number : ℕ) (a r s f : List ℕ) where
 
   module _ (e : forwardCheck l n m number a r s f ≡ Passed) where
     both : (firstOf (argumentsChecks l n m number []) ≡ Passed) × (firstOf (buffersChecks mode cs n m a r s f) ≡ Passed)
-    both = parts (firstOf (argumentsChecks l n m number [])) (firstOf (buffersChecks mode cs n m a r s f)) (sym (forward-order l n m number a r s f) ∙ e)
+    both = both-pass (firstOf (argumentsChecks l n m number [])) (firstOf (buffersChecks mode cs n m a r s f)) (sym (forward-order l n m number a r s f) ∙ e)
 
     sound : Sound cs
     sound = let h = first-passes (argumentsChecks l n m number []) (both .0) in check-sound l (pass-first (countCheck l ∷ limitCheck l ∷ []) (h .1 .1 .1 .0, (h .1 .1 .1 .1 .0, tt)))

@@ -1,6 +1,6 @@
 -- Entries and their words, in the language: an entry that is written reads back, and what is well-formed has small sums.
-use Prim.Native.Nat.{ℕ, zero, suc, _≤_}
-use mathlib.Core.Path.{_≡_, refl, ap, subst, _∙_}
+use Prim.Native.Nat.{ℕ, _≤_}
+use mathlib.Core.Path.{_≡_, refl, subst, _∙_}
 use mathlib.Core.Bool.{Bool, true, false, cond, _&&_, and-false, false≢true}
 use mathlib.Core.List.{List, [], _∷_, _++_}
 use native.Mathlib.Omega.{arith}
@@ -10,9 +10,9 @@ use lib.ListN.{length, getD, take}
 use lib.Seq.{take-append-le, take-take, getD-append-seam}
 use Rattle.weights.specs.declared.Component.{Component}
 use Rattle.weights.specs.Sizes.{weightWords, ones}
-use Rattle.weights.specs.Weights.{none, route, ValidValues}
+use Rattle.weights.specs.Weights.{none, route}
 use Rattle.weights.specs.Words.{filled, allAre, fits, good, malformed}
-use Rattle.weights.proofs.Readings.{values}
+use Rattle.weights.proofs.Readings.{values, length-filled, take-filled}
 use Rattle.weights.specs.Sums.{sumOf, sumAt}
 use Rattle.weights.proofs.Sums.{well-sum}
 use Rattle.modes.specs.declared.Mode.{Mode}
@@ -23,22 +23,10 @@ use Rattle.modes.specs.Gains.{weightIn}
 
 -- ---- written, and read back
 
-length-filled : (n : ℕ) (xs : List ℕ) → length (filled n xs) ≡ n
-length-filled zero xs = refl
-length-filled (suc n) [] = ap suc (length-filled n [])
-length-filled (suc n) (x ∷ xs) = ap suc (length-filled n xs)
-
 -- one word that is not w is enough
 all-last : (w : ℕ) (l : List ℕ) (t : ℕ) → eqb t w ≡ false → allAre w (l ++ t ∷ []) ≡ false
 all-last w [] t e = rw e
 all-last w (x ∷ l) t e = rw (all-last w l t e) (and-false (eqb x w))
-
-take-filled : (cs : List Component) (n : ℕ) (xs : List ℕ) → length cs ≤ n → ValidValues cs xs → take (length cs) (filled n xs) ≡ xs
-take-filled [] n [] h v = refl
-take-filled [] n (x ∷ xs) h v = absurd v
-take-filled (c ∷ cs) n [] h v = absurd v
-take-filled (c ∷ cs) zero (x ∷ xs) h v = absurd (omega arith)
-take-filled (c ∷ cs) (suc n) (x ∷ xs) h v = ap (x ∷_) (take-filled cs n xs (omega arith) (v .1))
 
 small-t : (mode : Mode) (t : ℕ) → ValidT mode t → eqb t ones ≡ false
 small-t Plain t h = ne-eqb t ones (λ e. omega arith)
@@ -55,7 +43,7 @@ entry-back mode cs empty h v = refl
 entry-back mode cs (mapped xs t) h v =
     let q : length (filled weightWords xs) ≡ weightWords = length-filled weightWords xs in
     decoded-mapped (length cs) (filled weightWords xs ++ t ∷ []) xs t (all-last ones (filled weightWords xs) t (small-t mode t (v .1)))
-    (take-append-le (length cs) (filled weightWords xs) (t ∷ []) (omega arith) ∙ take-filled cs weightWords xs h (v .0))
+    (take-append-le (length cs) (filled weightWords xs) (t ∷ []) (omega arith) ∙ take-filled weightWords cs xs h (v .0))
     (subst (λ (k : ℕ). getD (filled weightWords xs ++ t ∷ []) k 0 ≡ t) q (getD-append-seam (filled weightWords xs) t [] 0))
 
 -- ---- the sums of a well-formed entry

@@ -12,7 +12,7 @@ use Rattle.refusals.specs.declared.Refusal.the-variants.{Size, Length, Law, Equ
 use Rattle.refusals.specs.declared.Check.{Check}
 use Rattle.refusals.specs.declared.Check.the-variants.{Passed, Refused}
 use Rattle.refusals.specs.Checks.{unless, orElse, firstOf}
-use Rattle.refusals.proofs.First.{passed-not}
+use Rattle.refusals.proofs.First.{unless-passes, both-pass}
 use Rattle.weights.specs.declared.Component.{Component}
 use Rattle.weights.specs.declared.Language.{Language}
 use Rattle.weights.specs.declared.Places.{Places}
@@ -32,7 +32,7 @@ use Rattle.tables.specs.Tables.{Sized, FormedTable}
 use Rattle.tables.specs.Parts.{GivenTable}
 use Rattle.tables.proofs.MalformedEntries as entries
 use Rattle.routes.specs.Checks.{nodesCheck, lengthCheck, lawDCheck, lawUCheck, arcsCheck, routesCheck}
-use Rattle.routes.proofs.Order.{stops, goes-on, last, nodes-passed, unless-passes, length-passed}
+use Rattle.routes.proofs.Order.{stops, goes-on, last, nodes-passed, length-passed}
 use Rattle.forwarding.specs.Checks.{mostDestinations, destinationsCheck, chosenCheck, tableLengthCheck, lawCCheck, mappingCheck, solvesCheck}
 use Rattle.forwarding.specs.Calls.{buffersChecks, argumentsChecks}
 use Rattle.forwarding.specs.Ready.{InPlaces, Means}
@@ -44,11 +44,6 @@ pub group : (cs ds : List Check) → firstOf (cs ++ ds) ≡ orElse (firstOf cs) 
 group [] ds = refl
 group (Passed ∷ cs) ds = group cs ds
 group (Refused x ∷ cs) ds = refl
-
--- where a group passes, so does each part of it
-pub parts : (c d : Check) → orElse c d ≡ Passed → (c ≡ Passed) × (d ≡ Passed)
-parts Passed d e = (refl, e)
-parts (Refused x) d e = absurd (passed-not x (sym e))
 
 -- ---- single checks
 
@@ -174,10 +169,10 @@ module _ (mode : Mode) (cs : List Component) (n m : ℕ) (a r s f : List ℕ) wh
 
   pub lengths-passed : n ≤ 16 → m ≤ 32 → firstOf Lengths ≡ Passed → Long
   lengths-passed h k e =
-      let (ea, e1) = parts (lengthCheck 1 n a) _ e in
-      let (er, e2) = parts (lengthCheck 2 n r) _ e1 in
-      let (es, e3) = parts (tableLengthCheck 3 n m s) _ e2 in
-      let (ef, e4) = parts (tableLengthCheck 4 n m f) _ e3 in
+      let (ea, e1) = both-pass (lengthCheck 1 n a) _ e in
+      let (er, e2) = both-pass (lengthCheck 2 n r) _ e1 in
+      let (es, e3) = both-pass (tableLengthCheck 3 n m s) _ e2 in
+      let (ef, e4) = both-pass (tableLengthCheck 4 n m f) _ e3 in
       record { arcs = length-passed 1 n a h ea; routes = length-passed 2 n r h er; mapping = table-length-passed 3 n m s h k es; table = table-length-passed 4 n m f h k ef }
 
   pub record Lawful : Type 0 where
@@ -187,9 +182,9 @@ module _ (mode : Mode) (cs : List Component) (n m : ℕ) (a r s f : List ℕ) wh
 
   pub laws-passed : firstOf Laws ≡ Passed → Lawful
   laws-passed e =
-      let (ed, e1) = parts (lawDCheck cs) _ e in
-      let (eu, e2) = parts (lawUCheck cs) _ e1 in
-      let (ec, e3) = parts (lawCCheck mode cs) _ e2 in
+      let (ed, e1) = both-pass (lawDCheck cs) _ e in
+      let (eu, e2) = both-pass (lawUCheck cs) _ e1 in
+      let (ec, e3) = both-pass (lawCCheck mode cs) _ e2 in
       record { law-D = unless-passes (testD cs) (Law 1 0) ed; law-U = unless-passes (testU cs) (Law 2 0) eu; law-C = law-C-passed mode cs ec }
 
   pub record BuffersFormed : Type 0 where
@@ -199,9 +194,9 @@ module _ (mode : Mode) (cs : List Component) (n m : ℕ) (a r s f : List ℕ) wh
 
   pub entries-passed : Long → firstOf Entries ≡ Passed → BuffersFormed
   entries-passed g e =
-      let (ea, e1) = parts (arcsCheck cs n a) _ e in
-      let (er, e2) = parts (routesCheck cs n r) _ e1 in
-      let (es, e3) = parts (mappingCheck mode cs n m s) _ e2 in
+      let (ea, e1) = both-pass (arcsCheck cs n a) _ e in
+      let (er, e2) = both-pass (routesCheck cs n r) _ e1 in
+      let (es, e3) = both-pass (mappingCheck mode cs n m s) _ e2 in
       record { arcs = check-formed 1 arcSum cs n a (g .arcs) ea; routes = check-formed 2 matrixSum cs n r (g .routes) er; mapping = entries.check-formed 3 mode arcSum cs n m s (g .mapping) es }
 
   pub given : InPlaces n m cs → Lawful → BuffersFormed → Given cs n a r
@@ -216,11 +211,11 @@ module _ (mode : Mode) (cs : List Component) (n m : ℕ) (a r s f : List ℕ) wh
 
   pub buffers-passed : n ≤ 16 → m ≤ 32 → firstOf (buffersChecks mode cs n m a r s f) ≡ Passed → Ready
   buffers-passed h k e =
-      let (eb, e1) = parts (firstOf Lengths) _ (sym buffers-order ∙ e) in
-      let (eu, e2) = parts (firstOf Laws) _ e1 in
-      let (ef, e3) = parts (firstOf Entries) _ e2 in
+      let (eb, e1) = both-pass (firstOf Lengths) _ (sym buffers-order ∙ e) in
+      let (eu, e2) = both-pass (firstOf Laws) _ e1 in
+      let (ef, e3) = both-pass (firstOf Entries) _ e2 in
       let long = lengths-passed h k eb in
-      record { long = long; laws = laws-passed eu; formed = entries-passed long ef; solved = parts (solvesCheck cs n a r) _ e3 .0 }
+      record { long = long; laws = laws-passed eu; formed = entries-passed long ef; solved = both-pass (solvesCheck cs n a r) _ e3 .0 }
 
   -- .. and with it what the forwarding sum may rely on
   pub table-given : InPlaces n m cs → firstOf (buffersChecks mode cs n m a r s f) ≡ Passed → GivenTable mode cs n m r s × Sized n m f

@@ -4,13 +4,12 @@ use mathlib.Core.Path.{_≡_, sym, ap, ap₂, _∙_}
 use mathlib.Core.List.{List}
 use Rattle.refusals.specs.declared.Answer.{Answer}
 use Rattle.refusals.proofs.OneToOne.{answer-one}
-use Rattle.refusals.proofs.First.{passed-not}
+use Rattle.refusals.proofs.First.{passed-not, refused-one}
 use Rattle.weights.specs.declared.Language.{Language}
 use Rattle.weights.proofs.Unique.{places-one}
 use Rattle.modes.specs.declared.Mode.{Mode}
 use Rattle.modes.specs.declared.Chosen.{Chosen}
 use Rattle.modes.specs.declared.Chosen.the-variants.{Fits}
-use Rattle.routes.proofs.Order.{refused-one}
 use Rattle.forwarding.specs.declared.Arguments.{Arguments}
 use Rattle.forwarding.specs.declared.Arguments.the-variants.{Given, Refused as Not-given}
 use Rattle.forwarding.specs.Calls.{Meets}

@@ -44,7 +44,7 @@ pub fn check_arguments(l: Language, n: u32, m: u32, number: u32) -> Arguments
             Check::Refused(x) => Arguments::Refused(x),
             Check::Passed => match modes::choosing::mode_for(l, m as usize, number) {
                 Chosen::Unfit => Arguments::Refused(Refusal::Size { which: 3, place: 0 }),
-                Chosen::Fits(mode) => match weights::placing::check(l) {
+                Chosen::Fits(mode) => match placing::check(l) {
                     Checked::Unsound(x) => Arguments::Refused(x),
                     Checked::Sound(places) => Arguments::Given { places, mode },
                 },

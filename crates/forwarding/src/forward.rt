@@ -31,15 +31,7 @@ pub fn forward(
             match checks::check_buffers(places, chosen, n as usize, m as usize, a, r, mapping, f) {
                 Check::Refused(x) => Answer::Refused(x),
                 Check::Passed => {
-                    tables::forwarding::forward_table(
-                        places,
-                        chosen,
-                        n as usize,
-                        m as usize,
-                        r,
-                        mapping,
-                        f,
-                    );
+                    sums::forward_table(places, chosen, n as usize, m as usize, r, mapping, f);
                     Answer::Done
                 }
             }

@@ -1,18 +1,11 @@
 -- Where a row of a matrix stands, and what its part of the buffer is.
-use Prim.Native.Nat.{ℕ, _+_, _*_, _-_, _≤_, _<_}
+use Prim.Native.Nat.{ℕ, _+_, _*_, _-_}
 use mathlib.Core.Path.{_≡_, ap}
 use mathlib.Core.List.{List}
 use native.Mathlib.Nat.{add-comm, zero-add, add-sub-cancel-left}
-use native.Mathlib.Omega.{arith}
-use lib.ListN.{length, take, drop}
+use lib.ListN.{take, drop}
 use Rattle.weights.specs.Sizes.{weightWords}
-use Rattle.matrices.specs.Buffers.{Square}
-use Rattle.matrices.proofs.Blocks.{square-small, block-room}
 use Rattle.handover.specs.Calls.{rowPart, rowStart}
-
--- row i lies within the matrix, which is small
-pub row-in : (n i : ℕ) (s : List ℕ) → Square n s → i < n → (i * (n * weightWords) + n * weightWords ≤ length s) × (length s ≤ 1024)
-row-in n i s q h = (omega (arith, block-room (n * weightWords) i n h, q .long), omega (arith, square-small n (q .few), q .long))
 
 -- the part from row i's beginning to its end is row i, and it stands in the matrix
 pub row-words : (n i : ℕ) (s : List ℕ) → take (i * (n * weightWords) + n * weightWords - i * (n * weightWords)) (drop (i * (n * weightWords)) s) ≡ rowPart n i s

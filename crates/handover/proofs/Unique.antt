@@ -6,12 +6,11 @@ use native.Mathlib.Omega.{arith}
 use Rattle.refusals.specs.declared.Answer.{Answer}
 use Rattle.refusals.specs.Checks.{answerTold, checkTold}
 use Rattle.refusals.proofs.OneToOne.{told-one, told-not-done, answer-one}
-use Rattle.refusals.proofs.First.{passed-not}
+use Rattle.refusals.proofs.First.{passed-not, refused-one}
 use Rattle.weights.specs.declared.Language.{Language}
 use Rattle.weights.proofs.Unique.{places-one}
 use Rattle.routes.specs.declared.Ready.{Ready}
 use Rattle.routes.specs.declared.Ready.the-variants.{Given as Places-given, Refused as Call-refused}
-use Rattle.routes.proofs.Order.{refused-one}
 use Rattle.handover.specs.declared.LenderAnswer.{LenderAnswer}
 use Rattle.handover.specs.declared.LenderAnswer.the-variants.{Newer, Standing, Refused as LenderRefused}
 use Rattle.handover.specs.Calls.{handoverCheck, LenderRow, lenderRow, lenderSaid, lentRow, lentStart}

@@ -46,7 +46,7 @@ pub fn ready(l: Language, n: u32, a: &[u32], standing: &[u32], newer: &[u32], i:
 {
     match checks::check_nodes(n) {
         Check::Refused(x) => Ready::Refused(x),
-        Check::Passed => match weights::placing::check(l) {
+        Check::Passed => match placing::check(l) {
             Checked::Unsound(x) => Ready::Refused(x),
             Checked::Sound(p) => match check_lengths(n as usize, a, newer, standing) {
                 Check::Refused(x) => Ready::Refused(x),

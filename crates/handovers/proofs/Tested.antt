@@ -10,7 +10,7 @@ use Rattle.refusals.specs.declared.Refusal.the-variants.{Law}
 use Rattle.refusals.specs.declared.Check.{Check}
 use Rattle.refusals.specs.declared.Check.the-variants.{Passed}
 use Rattle.refusals.specs.Checks.{firstOf}
-use Rattle.refusals.proofs.First.{first-passes}
+use Rattle.refusals.proofs.First.{first-passes, unless-passes}
 use Rattle.algebra.specs.Network.{Network}
 use Rattle.algebra.specs.Best.{Best, best}
 use Rattle.algebra.specs.Step.{sweeps, reached}
@@ -29,7 +29,7 @@ use Rattle.matrices.specs.Steps.{Matrix}
 use Rattle.matrices.proofs.Entries.{matrix-cong, matrix-four}
 use Rattle.matrices.proofs.Malformed.{check-formed}
 use Rattle.routes.specs.Calls.{matrixOf, matricesChecks}
-use Rattle.routes.proofs.Order.{nodes-passed, length-passed, unless-passes}
+use Rattle.routes.proofs.Order.{nodes-passed, length-passed}
 use Rattle.histories.proofs.Reached.{network, reached-formed, reached-reads}
 use Rattle.histories.proofs.Standing.{words-self}
 use Rattle.handover.specs.Calls.{bestWords, isBest}

@@ -4,7 +4,7 @@ use Prim.Native.Nat.{ℕ, _≤_}
 use mathlib.Core.Path.{_≡_, refl, sym, ap, subst, _∙_}
 use mathlib.Core.Bool.{Bool, false, false≢true}
 use mathlib.Core.List.{List, [], _∷_, _++_, map}
-use mathlib.Core.Logic.{_⊎_, inl, inr, _↔_}
+use mathlib.Core.Logic.{_⊎_, inl, inr, _↔_, Iff·trans}
 use lib.Dec.{eqb}
 use lib.ListN.{length}
 use borrow.Author.Tests.{eq-eqb}
@@ -28,7 +28,7 @@ use Rattle.routes.specs.Checks.{mostSteps, manyCheck}
 use Rattle.routes.specs.Calls.{matrixOf, freshCheck, matricesChecks, stepOf, stepsCheck, stepsRow, equationCheck, equationRowBy, equationRow}
 use Rattle.routes.specs.Exact.{IsStep, sizes, sizesAndLaws, sizesLawsAndArcs, sizesLawsAndEntries, MatricesRefusals}
 use Rattle.routes.proofs.OneTeller.{Teller, checksOf, none-gives, given-where}
-use Rattle.routes.proofs.Cases.{then, done-exactly, alone, nodes-case, length-case, law-D-missing, law-U-missing, law-U-after, many-case, list-case, nodesTeller, countTeller, limitTeller, lengthTeller, lawDTeller, lawUTeller, manyTeller, listTeller, matricesTellers, matrices-refusals}
+use Rattle.routes.proofs.Cases.{done-exactly, alone, nodes-case, length-case, law-D-missing, law-U-missing, law-U-after, many-case, list-case, nodesTeller, countTeller, limitTeller, lengthTeller, lawDTeller, lawUTeller, manyTeller, listTeller, matricesTellers, matrices-refusals}
 use Rattle.histories.specs.Exact.{freshSizes, FreshRefusals, EquationRefusals, StopsAt, StepsOverflow, StepsRefusals}
 use Rattle.histories.proofs.Exact.{fresh-refuses, equation-refuses, steps-refuses, steps-done}
 
@@ -43,12 +43,12 @@ module _ (l : Language) (n : ℕ) (r : List ℕ) where
 
   pub fresh-refusals : FreshRefusals l n r (checkTold (freshCheck l n r))
   fresh-refusals = record {
-    nodes = then (fresh-refuses l n r (Size 1 0)) (alone (given-where 0 freshTellers (Size 1 0) refl (λ p. nodes-case n)));
-    count = then (fresh-refuses l n r (BadCount 0 0)) (given-where 1 freshTellers (BadCount 0 0) refl (λ p. count-case l));
-    limits = λ k. then (fresh-refuses l n r (BadComponent 0 k)) (given-where 2 freshTellers (BadComponent 0 k) refl (λ p. limit-case l k));
-    routes-length = then (fresh-refuses l n r (Length 2 0)) (given-where 3 freshTellers (Length 2 0) refl (λ p. length-case 2 n r));
-    law-D = then (fresh-refuses l n r (Law 1 0)) (given-where 4 freshTellers (Law 1 0) refl (λ p. law-D-missing cs (limits-exact cs .0 (p .1 .1 .0))));
-    law-U = then (fresh-refuses l n r (Law 2 0)) (law-U-after (freshSizes l n r) cs (λ p. limits-exact cs .0 (p .1 .1 .0)) (given-where 5 freshTellers (Law 2 0) refl (λ p. law-U-missing cs (limits-exact cs .0 (p .1 .1 .0)))));
+    nodes = Iff·trans (fresh-refuses l n r (Size 1 0)) (alone (given-where 0 freshTellers (Size 1 0) refl (λ p. nodes-case n)));
+    count = Iff·trans (fresh-refuses l n r (BadCount 0 0)) (given-where 1 freshTellers (BadCount 0 0) refl (λ p. count-case l));
+    limits = λ k. Iff·trans (fresh-refuses l n r (BadComponent 0 k)) (given-where 2 freshTellers (BadComponent 0 k) refl (λ p. limit-case l k));
+    routes-length = Iff·trans (fresh-refuses l n r (Length 2 0)) (given-where 3 freshTellers (Length 2 0) refl (λ p. length-case 2 n r));
+    law-D = Iff·trans (fresh-refuses l n r (Law 1 0)) (given-where 4 freshTellers (Law 1 0) refl (λ p. law-D-missing cs (limits-exact cs .0 (p .1 .1 .0))));
+    law-U = Iff·trans (fresh-refuses l n r (Law 2 0)) (law-U-after (freshSizes l n r) cs (λ p. limits-exact cs .0 (p .1 .1 .0)) (given-where 5 freshTellers (Law 2 0) refl (λ p. law-U-missing cs (limits-exact cs .0 (p .1 .1 .0)))));
     passes = done-exactly (checksOf freshTellers) (checkTold (freshCheck l n r)) refl;
   }
 
@@ -119,11 +119,11 @@ module _ (l : Language) (n : ℕ) (a r list : List ℕ) where
 
   -- 13 exactly where the list has over 4,096 numbers
   pub steps-many : (stepsRow l n a r list .told ≡ told (TooMany 0 0)) ↔ (Pass (sizesLawsAndEntries l n a r) × (length list ≤ mostSteps → ⊥))
-  steps-many = then (checked (TooMany 0 0) refl) (given-where 9 stepsTellers (TooMany 0 0) refl (λ p. many-case list))
+  steps-many = Iff·trans (checked (TooMany 0 0) refl) (given-where 9 stepsTellers (TooMany 0 0) refl (λ p. many-case list))
 
   -- 7 at number k exactly where that is the first of the list that is no step
   pub steps-no-such : (k : ℕ) → (stepsRow l n a r list .told ≡ told (NoSuch 0 k)) ↔ (Pass (sizesLawsAndEntries l n a r ++ manyCheck list ∷ []) × FirstNot (IsStep n) k list)
-  steps-no-such k = then (checked (NoSuch 0 k) refl) (given-where 10 stepsTellers (NoSuch 0 k) refl (λ p. list-case n list k))
+  steps-no-such k = Iff·trans (checked (NoSuch 0 k) refl) (given-where 10 stepsTellers (NoSuch 0 k) refl (λ p. list-case n list k))
 
   -- 11 at step k exactly where every check passes and step k is the first that would store a sum above 983,025
   pub steps-sum : (k : ℕ) → (stepsRow l n a r list .told ≡ told (Sum 0 k)) ↔ ((stepsCheck l n a r list ≡ Passed) × StopsAt (componentsOf l) n (matrixOf l n a) (matrixOf l n r) k (map stepOf list))
@@ -139,8 +139,8 @@ module _ (l : Language) (n : ℕ) (a r list : List ℕ) where
     matrices = shared;
     many = steps-many;
     no-such = steps-no-such;
-    overflow = λ k. then (steps-sum k) by-pass;
-    passes = then (steps-done l n a r list) by-pass;
+    overflow = λ k. Iff·trans (steps-sum k) by-pass;
+    passes = Iff·trans (steps-done l n a r list) by-pass;
   }
     where
       by-pass : {P : Type 0} → ((stepsCheck l n a r list ≡ Passed) × P) ↔ (Pass (checksOf stepsTellers) × P)

@@ -14,11 +14,11 @@ use Rattle.refusals.specs.declared.Check.the-variants.{Passed, Refused}
 use Rattle.refusals.specs.Told.{done}
 use Rattle.refusals.specs.Checks.{firstOf}
 use Rattle.refusals.proofs.OneToOne.{number-some}
-use Rattle.refusals.proofs.First.{first-passes, pass-first}
+use Rattle.refusals.proofs.First.{first-passes, pass-first, unless-passes}
 use Rattle.algebra.specs.Network.{Network}
 use Rattle.algebra.specs.Path.{Mem}
 use Rattle.algebra.specs.Best.{Best, best}
-use Rattle.algebra.specs.Step.{Step, settle, fresh, reached}
+use Rattle.algebra.specs.Step.{Step, settle, reached}
 use Rattle.algebra.specs.Demand.{Demand3}
 use Rattle.algebra.proofs.Reach.{never-worse}
 use Rattle.algebra.proofs.Demands.{demand-3}
@@ -37,7 +37,7 @@ use Rattle.routes.specs.Checks.{firstSettle, mostSteps, nodesCheck, lengthCheck
 use Rattle.routes.specs.Calls.{matrixOf, freshLeftBy, freshLeft, stepOf, runOf, doneOf, matricesChecks, stepsCheck, StepsRow, rowAfterRun, stepsRowBy, stepsRow, stepsLeftBy, stepsLeft}
 use Rattle.routes.specs.Ready.{AllSteps}
 use Rattle.histories.specs.History.{addedBy, afterCalls, soFar, HistoryBegun, held, ran, HistoryDemand3}
-use Rattle.routes.proofs.Order.{goes-on, matrices-rest, nodes-passed, length-same, length-passed, unless-passes}
+use Rattle.routes.proofs.Order.{goes-on, matrices-rest, nodes-passed, length-same, length-passed}
 use Rattle.routes.proofs.Lists.{all-in, list-passed, passed-list, all-front, all-back}
 use Rattle.histories.proofs.Reached.{length-steps, network, reached-formed, reached-reads, runs-on}
 use Rattle.refusals.specs.declared.Refusal.the-variants.{Law}

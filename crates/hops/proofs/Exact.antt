@@ -3,7 +3,7 @@
 use Prim.Native.Nat.{ℕ}
 use mathlib.Core.Path.{_≡_, refl, ap, _∙_}
 use mathlib.Core.List.{List, [], _∷_}
-use mathlib.Core.Logic.{_↔_}
+use mathlib.Core.Logic.{_↔_, Iff·trans}
 use mathlib.Core.Option.{Option, some}
 use native.Mathlib.Omega.{arith}
 use Rattle.refusals.specs.declared.Refusal.{Refusal}
@@ -19,7 +19,7 @@ use Rattle.routes.specs.Checks.{nodeCheck}
 use Rattle.routes.specs.Calls.{matrixOf, matricesChecks}
 use Rattle.refusals.proofs.Exactly.{told-check}
 use Rattle.routes.proofs.OneTeller.{Teller, given-where}
-use Rattle.routes.proofs.Cases.{then, done-exactly, node-case, nodeTeller, matricesTellers, matrices-refusals}
+use Rattle.routes.proofs.Cases.{done-exactly, node-case, nodeTeller, matricesTellers, matrices-refusals}
 use Rattle.hops.specs.NextHop.{hopOf, NextHop}
 use Rattle.hops.specs.Calls.{hopCheck, hopRowBy, hopRow}
 use Rattle.hops.specs.Exact.{HopRefusals}
@@ -50,8 +50,8 @@ module _ (l : Language) (n : ℕ) (a r : List ℕ) (i j : ℕ) where
   pub hop-refusals : HopRefusals l n a r i j (hopRow l n a r i j .told)
   hop-refusals = record {
     matrices = matrices-refusals l n a r rest (refl, refl, λ k. refl, refl, refl, refl, refl, λ place. refl, λ place. refl) (hopRow l n a r i j .told) (λ x f. hop-refuses x);
-    no-i = then (hop-refuses (NoSuch 0 0)) (given-where 9 (matricesTellers l n a r rest) (NoSuch 0 0) refl (λ p. node-case 0 n i));
-    no-j = then (hop-refuses (NoSuch 0 1)) (given-where 10 (matricesTellers l n a r rest) (NoSuch 0 1) refl (λ p. node-case 1 n j));
+    no-i = Iff·trans (hop-refuses (NoSuch 0 0)) (given-where 9 (matricesTellers l n a r rest) (NoSuch 0 0) refl (λ p. node-case 0 n i));
+    no-j = Iff·trans (hop-refuses (NoSuch 0 1)) (given-where 10 (matricesTellers l n a r rest) (NoSuch 0 1) refl (λ p. node-case 1 n j));
     passes = done-exactly checks (hopRow l n a r i j .told) (tells (hopCheck l n a r i j) rule);
   }
     where

@@ -22,7 +22,7 @@ use Rattle.hops.specs.NextHop.{isHop, lowestFrom, hopOf, ArcGivesWeight,
 nothing-some : {k : ℕ} → _≡_ {A = Option ℕ} nothing (some k) → ⊥
 nothing-some e = let z : _≡_ {A = ℕ} 0 1 = cc in omega arith
 
-some-one : {k m : ℕ} → some k ≡ some m → k ≡ m
+pub some-one : {k m : ℕ} → some k ≡ some m → k ≡ m
 some-one e = cc
 
 module _ (test : ℕ → Bool) where

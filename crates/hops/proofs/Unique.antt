@@ -13,12 +13,10 @@ use Rattle.hops.specs.declared.HopAnswer.{HopAnswer}
 use Rattle.hops.specs.declared.HopAnswer.the-variants.{Hop, NoHop, Refused as HopRefused}
 use Rattle.hops.specs.NextHop.{foundAt}
 use Rattle.hops.specs.Calls.{HopRow, hopRow, hopSaid}
+use Rattle.hops.proofs.Rule.{some-one}
 
 node-one : (k m : Node) → k .0 ≡ m .0 → k ≡ m
 node-one k m e = λ i. record { 0 = e i }
-
-some-one : {k m : ℕ} → some k ≡ some m → k ≡ m
-some-one e = cc
 
 some-not : {k : ℕ} → _≡_ {A = Option ℕ} (some k) nothing → ⊥
 some-not e = let z : _≡_ {A = ℕ} 1 0 = cc in omega arith

@@ -504,7 +504,7 @@ pub fn has_c(p: Places) -> bool
 pub fn laws(l: Language) -> LawAnswer
     ensures { λ r. ⌜ answerRow r ≡ report l ⌝ }
 {
-    match weights::placing::check(l) {
+    match placing::check(l) {
         Checked::Sound(p) => {
             let d = law_d(p);
             let u = law_u(p);

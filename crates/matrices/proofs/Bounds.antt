@@ -2,7 +2,7 @@
 -- small enough to be joined, and what a row step works out stands in words.
 use mathlib.Core.Path.{_≡_, refl, ap, ap₂, subst, _∙_}
 use mathlib.Core.List.{List, [], _∷_}
-use mathlib.Core.Bool.{Bool, true, false, cond, _&&_, false≢true}
+use mathlib.Core.Bool.{Bool, true, false, cond, _&&_, false≢true, and-eq-true-iff}
 use Prim.Native.Nat.{ℕ, zero, suc, _+_, _≤_, _<_}
 use native.Mathlib.Omega.{arith}
 use borrow.Author.Tests.{leb-true, le-leb, ne-eqb}
@@ -21,17 +21,17 @@ use Rattle.weights.specs.Languages.{placesOf, SmallLimit, SmallLimits}
 use Rattle.weights.specs.Values.{AtMost, AllAtMost}
 use Rattle.weights.specs.Words.{words, allAre, inRange, fits, good, malformed, reading, decoded}
 use Rattle.weights.proofs.Ordering.{join-valid, unit-valid}
+use Rattle.weights.proofs.Readings.{well-read, well-valid}
 use Rattle.matrices.specs.Buffers.{wordsAt, entryPlace, cell, matrixIn, Formed}
 use Rattle.weights.specs.Words.{isGood}
 use Rattle.matrices.specs.Steps.{sumFits, sumsFit, weightFits}
 use Rattle.matrices.specs.Parts.{allLow, low}
-use Rattle.matrices.proofs.Every.{both}
 
 -- ---- what a well-formed buffer holds
 
 range-most : (cap n : ℕ) (c : Component) (v : ℕ) → n ≤ cap → SmallLimit n c → inRange cap c v ≡ true → v ≤ cap
 range-most cap n Dist v h s e = leb-true v cap e
-range-most cap n (Width w) v h s e = omega (arith, leb-true v w (both (leb 1 v) (leb v w) e .1))
+range-most cap n (Width w) v h s e = omega (arith, leb-true v w (and-eq-true-iff (leb 1 v) (leb v w) .0 e .1))
 range-most cap n (Class k) v h s e = omega (arith, leb-true v k e)
 range-most cap n Gain v h s e = leb-true v cap e
 
@@ -39,29 +39,10 @@ pub fits-most : (cap n : ℕ) (cs : List Component) (xs : List ℕ) → n ≤ ca
 fits-most cap n [] xs h s e = tt
 fits-most cap n (c ∷ cs) [] h s e = tt
 fits-most cap n (c ∷ cs) (x ∷ xs) h s e =
-    let k = both (inRange cap c x) (fits cap cs xs) e in (range-most cap n c x h (s .0) (k .0), fits-most cap n cs xs h (s .1) (k .1))
+    let k = and-eq-true-iff (inRange cap c x) (fits cap cs xs) .0 e in (range-most cap n c x h (s .0) (k .0), fits-most cap n cs xs h (s .1) (k .1))
 
-range-valid : (cap : ℕ) (c : Component) (v : ℕ) → inRange cap c v ≡ true → ValidValue c v
-range-valid cap Dist v e = tt
-range-valid cap (Width w) v e = let k = both (leb 1 v) (leb v w) e in (leb-true 1 v (k .0), leb-true v w (k .1))
-range-valid cap (Class k) v e = leb-true v k e
-range-valid cap Gain v e = tt
-
-fits-valid : (cap : ℕ) (cs : List Component) (xs : List ℕ) → fits cap cs xs ≡ true → ValidValues cs (take (length cs) xs)
-fits-valid cap [] xs e = tt
-fits-valid cap (c ∷ cs) [] e = absurd (false≢true e)
-fits-valid cap (c ∷ cs) (x ∷ xs) e = let k = both (inRange cap c x) (fits cap cs xs) e in (range-valid cap c x (k .0), fits-valid cap cs xs (k .1))
-
--- words that read well are a valid weight, none of whose values is above cap
+-- no value of a weight that reads well is above cap
 module _ (cap : ℕ) (cs : List Component) (ws : List ℕ) (e : isGood (reading cap cs ws) ≡ true) where
-  read-valid : Valid cs (decoded (length cs) ws)
-  read-valid = go (allAre ones ws) (fits cap cs ws) refl e
-    where
-      go : (a b : Bool) → fits cap cs ws ≡ b → isGood (cond a (good none) (cond b (good (route (take (length cs) ws))) malformed)) ≡ true → Valid cs (cond a none (route (take (length cs) ws)))
-      go true b f g = tt
-      go false true f g = fits-valid cap cs ws f
-      go false false f g = absurd (false≢true g)
-
   read-most : (n : ℕ) → n ≤ cap → SmallLimits n cs → AtMost cap (decoded (length cs) ws)
   read-most n h s = go (allAre ones ws) (fits cap cs ws) refl e
     where
@@ -73,7 +54,7 @@ module _ (cap : ℕ) (cs : List Component) (ws : List ℕ) (e : isGood (reading 
 -- the entries of a well-formed buffer are weights of the language
 pub formed-valid : (cap : ℕ) (p : Places) (n : ℕ) (s : List ℕ) → Formed cap (placesOf p) n s → (i j : ℕ) → i < n → j < n → Valid (placesOf p) (matrixIn places n s i j)
 unfolding cell
-formed-valid cap p n s f i j hi hj = read-valid cap (placesOf p) (wordsAt s (entryPlace n i j)) (f .reads i j hi hj)
+formed-valid cap p n s f i j hi hj = well-valid cap (placesOf p) (wordsAt s (entryPlace n i j)) (well-read cap (placesOf p) (wordsAt s (entryPlace n i j)) (f .reads i j hi hj))
 
 -- .. and no value of one is above cap
 pub formed-most : (cap : ℕ) (p : Places) (n : ℕ) (s : List ℕ) → arcSum ≤ cap → SmallLimits 65535 (placesOf p) → Formed cap (placesOf p) n s
@@ -217,7 +198,7 @@ values-in [] [] h e = refl
 values-in [] (x ∷ xs) h e = absurd h
 values-in (c ∷ cs) [] h e = absurd h
 values-in (c ∷ cs) (x ∷ xs) h e =
-    let k = both (sumFits c x) (sumsFit cs xs) e in
+    let k = and-eq-true-iff (sumFits c x) (sumsFit cs xs) .0 e in
     rw (value-in c x (h .0) (k .0), values-in cs xs (h .1) (k .1))
 
 good-words4 : (c0 c1 c2 c3 : Component) (w : Weight) → Valid (c0 ∷ c1 ∷ c2 ∷ c3 ∷ []) w → weightFits (c0 ∷ c1 ∷ c2 ∷ c3 ∷ []) w ≡ true → isGood (reading matrixSum (c0 ∷ c1 ∷ c2 ∷ c3 ∷ []) (words w)) ≡ true

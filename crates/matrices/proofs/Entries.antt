@@ -1,8 +1,8 @@
 -- The entries of a buffer and the words of its entries: a buffer is the words of its entries, and a weight that is written is read back.
 use mathlib.Core.Path.{_≡_, refl, sym, ap, ap₂, _∙_, subst}
 use mathlib.Core.List.{List, [], _∷_, _++_, append-assoc, append-nil}
-use mathlib.Core.Bool.{Bool, true, false, cond, _&&_}
-use Prim.Native.Nat.{ℕ, zero, suc, _+_, _*_, _≤_, _<_}
+use mathlib.Core.Bool.{Bool, true, false, cond, _&&_, and-eq-true-iff}
+use Prim.Native.Nat.{ℕ, _+_, _*_, _≤_, _<_}
 use native.Mathlib.Numerals.{add-one}
 use native.Mathlib.Omega.{arith}
 use borrow.Author.Tests.{eqb-true}
@@ -13,20 +13,15 @@ use Rattle.weights.specs.declared.Component.{Component}
 use Rattle.weights.specs.Sizes.{places, weightWords, ones}
 use Rattle.weights.specs.Weights.{Weight, none, route, better, betterOf, join}
 use Rattle.weights.specs.Gains.{loses}
-use Rattle.weights.specs.Words.{filled, words, allAre, decoded}
+use Rattle.weights.specs.Words.{words, allAre, decoded}
 use Rattle.weights.proofs.Ordering.{betterOf-first, betterOf-second}
 use Rattle.weights.proofs.Gains.{loses-stays}
+use Rattle.weights.proofs.Readings.{length-filled}
 use Rattle.matrices.specs.Buffers.{rowWords, matrixWords, entryPlace, wordsAt, cell, rowIn, matrixIn, Square}
 use Rattle.matrices.specs.Steps.{Matrix}
 use Rattle.matrices.proofs.Blocks.{blocks-take, blocks-cong, blocks-put, blocks-at, front-at, length-blocks, place-room, block-room, square-small}
-use Rattle.matrices.proofs.Every.{both}
 
 -- ---- the words of a weight
-
-length-filled : (n : ℕ) (xs : List ℕ) → length (filled n xs) ≡ n
-length-filled zero xs = refl
-length-filled (suc n) [] = ap suc (length-filled n [])
-length-filled (suc n) (x ∷ xs) = ap suc (length-filled n xs)
 
 pub length-words : (w : Weight) → length (words w) ≡ weightWords
 unfolding words
@@ -41,10 +36,10 @@ length-matrix n R = length-blocks (n * weightWords) (λ i. rowWords n (R i)) (λ
 
 ones-are : (a b c d : ℕ) → allAre ones (a ∷ b ∷ c ∷ d ∷ []) ≡ true → ones ∷ ones ∷ ones ∷ ones ∷ [] ≡ a ∷ b ∷ c ∷ d ∷ []
 ones-are a b c d e =
-    let e₀ = both (eqb a ones) (eqb b ones && (eqb c ones && (eqb d ones && true))) e in
-    let e₁ = both (eqb b ones) (eqb c ones && (eqb d ones && true)) (e₀ .1) in
-    let e₂ = both (eqb c ones) (eqb d ones && true) (e₁ .1) in
-    let e₃ = both (eqb d ones) true (e₂ .1) in
+    let e₀ = and-eq-true-iff (eqb a ones) (eqb b ones && (eqb c ones && (eqb d ones && true))) .0 e in
+    let e₁ = and-eq-true-iff (eqb b ones) (eqb c ones && (eqb d ones && true)) .0 (e₀ .1) in
+    let e₂ = and-eq-true-iff (eqb c ones) (eqb d ones && true) .0 (e₁ .1) in
+    let e₃ = and-eq-true-iff (eqb d ones) true .0 (e₂ .1) in
     rw (eqb-true a ones (e₀ .0), eqb-true b ones (e₁ .0), eqb-true c ones (e₂ .0), eqb-true d ones (e₃ .0))
 
 -- four words are the words of what they stand for

@@ -1,7 +1,7 @@
 -- Tests of all of several, and of the routing equation: a test holds exactly where what it tests does.
 use mathlib.Core.Path.{_≡_, refl, sym, ap, ap₂, _∙_}
 use mathlib.Core.Logic.{⊎-elim, _↔_}
-use mathlib.Core.Bool.{Bool, true, false, _&&_, false≢true, and-false}
+use mathlib.Core.Bool.{Bool, true, false, _&&_, and-false, and-eq-true-iff}
 use mathlib.Core.List.{List}
 use Prim.Native.Nat.{ℕ, zero, suc, _+_, _<_}
 use native.Mathlib.Nat.{eq-or-lt-of-le, le-of-suc-le-suc}
@@ -13,10 +13,6 @@ use Rattle.weights.specs.Weights.{language}
 use Rattle.weights.proofs.Compared.{same-exactly}
 use Rattle.matrices.specs.Steps.{Matrix, every, rowSolves, solves}
 use Rattle.matrices.specs.Parts.{sameAt}
-
-pub both : (x y : Bool) → (x && y) ≡ true → (x ≡ true) × (y ≡ true)
-both true y e = (refl, e)
-both false y e = absurd (false≢true e)
 
 pub every-none : (t : ℕ → Bool) → every 0 t ≡ true
 unfolding every
@@ -47,7 +43,7 @@ pub every-at : (t : ℕ → Bool) (n : ℕ) → every n t ≡ true → (j : ℕ)
 unfolding every
 every-at t zero e j h = absurd (omega arith)
 every-at t (suc n) e j h =
-    let k = both (every n t) (t n) e in
+    let k = and-eq-true-iff (every n t) (t n) .0 e in
     ⊎-elim (λ q. ap t q ∙ k .1) (λ l. every-at t n (k .0) j l) (eq-or-lt-of-le (le-of-suc-le-suc h))
 
 pub every-all : (t : ℕ → Bool) (n : ℕ) → ((j : ℕ) → j < n → t j ≡ true) → every n t ≡ true

@@ -1,5 +1,5 @@
--- Steps can follow one another: the fresh matrix, and what a row step or a settle step leaves of a well-formed matrix, is well-formed,
--- and its words stand for its entries.
+-- Steps can follow one another: what a row step or a settle step leaves of a well-formed matrix is well-formed, and its words stand for
+-- its entries.
 use Prim.Native.Nat.{ℕ, _+_, _*_, _≤_, _<_}
 use mathlib.Core.Path.{_≡_, refl, sym, ap, _∙_, subst}
 use mathlib.Core.Bool.{Bool, true, false, cond}
@@ -8,11 +8,11 @@ use native.Mathlib.Omega.{arith}
 use borrow.Author.Tests.{eqb-true}
 use lib.Dec.{eqb}
 use Rattle.algebra.specs.Best.{best}
-use Rattle.algebra.specs.Step.{row, settle, fresh, routed, step}
+use Rattle.algebra.specs.Step.{row, settle, routed, step}
 use Rattle.weights.specs.declared.Places.{Places}
 use Rattle.weights.specs.Sizes.{places, weightWords, matrixSum}
-use Rattle.weights.specs.Weights.{Weight, language, Sound}
-use Rattle.weights.specs.Languages.{placesOf, SmallLimits}
+use Rattle.weights.specs.Weights.{Weight, language}
+use Rattle.weights.specs.Languages.{placesOf}
 use Rattle.weights.specs.Words.{reading, words, decoded}
 use Rattle.matrices.specs.Buffers.{matrixWords, matrixIn, entryPlace, Formed}
 use Rattle.weights.specs.Words.{isGood}
@@ -20,7 +20,7 @@ use Rattle.matrices.specs.Steps.{Matrix, weightFits, rowFits, stepped, G
 use Rattle.matrices.proofs.Blocks.{place-room}
 use Rattle.matrices.proofs.Entries.{length-matrix, words-cell, cell-back, matrix-four, matrix-reads}
 use Rattle.matrices.proofs.Every.{every-at}
-use Rattle.matrices.proofs.Bounds.{Within, within-weaken, within-fresh, within-back, good-words}
+use Rattle.matrices.proofs.Bounds.{Within, within-back, good-words}
 use Rattle.matrices.proofs.Rounds.{routed-within, routed-back}
 use Rattle.matrices.proofs.Sums.{most-fits, arcs-of, best-within}
 
@@ -54,18 +54,6 @@ old-stands p n r f i j hi hj =
       good = subst (λ (l : List ℕ). isGood (reading matrixSum (placesOf p) l) ≡ true) (sym (words-cell r (entryPlace n i j) (omega (arith, f .square .long)))) (f .reads i j hi hj);
       back = cell-back r (entryPlace n i j) (omega (arith, f .square .long));
     }
-
--- ---- the fresh matrix
-
-module _ (p : Places) (n : ℕ) (few : n ≤ 16) (sound : Sound (placesOf p)) (limits : SmallLimits 65535 (placesOf p)) where
-  fresh-stands : (i j : ℕ) → Stands p (fresh (language (placesOf p)) i j)
-  fresh-stands i j = within-stands p _ (weaken (within-fresh 65535 (placesOf p) sound limits i j))
-    where
-      weaken : Within 65535 (placesOf p) (fresh (language (placesOf p)) i j) → Within matrixSum (placesOf p) (fresh (language (placesOf p)) i j)
-      weaken h = within-weaken 65535 matrixSum (placesOf p) _ (omega arith) h
-
-  pub fresh-formed : Formed matrixSum (placesOf p) n (matrixWords n (fresh (language (placesOf p))))
-  fresh-formed = stands-formed p n (fresh (language (placesOf p))) few (λ i j _ _. fresh-stands i j)
 
 -- ---- the steps
 
@@ -116,9 +104,6 @@ module _ (p : Places) (n : ℕ) (a r : List ℕ) (g : Given (placesOf p) n a r) 
   }
 
   -- a row step
-  pub row-formed : (i : ℕ) → Formed matrixSum (placesOf p) n (matrixWords n (stepped (placesOf p) n (matrixIn places n a) (matrixIn places n r) i))
-  row-formed i = stands-formed p n (rowLeft i) (g .routes .square .few) (row-stands i)
-
   pub row-entries : (i u v : ℕ) → u < n → v < n
       → matrixIn places n (matrixWords n (stepped (placesOf p) n (matrixIn places n a) (matrixIn places n r) i)) u v ≡ stepped (placesOf p) n (matrixIn places n a) (matrixIn places n r) i u v
   row-entries i = stands-entries p n (rowLeft i) (row-stands i)
@@ -127,9 +112,6 @@ module _ (p : Places) (n : ℕ) (a r : List ℕ) (g : Given (placesOf p) n a r) 
   row-given i r′ e = given-again (rowLeft i) r′ (row-stands i) e
 
   -- a settle step
-  pub settle-formed : (j : ℕ) → Formed matrixSum (placesOf p) n (matrixWords n (step (language (placesOf p)) n (matrixIn places n a) (settle j) (matrixIn places n r)))
-  settle-formed j = stands-formed p n (settleLeft j) (g .routes .square .few) (settle-stands j)
-
   pub settle-entries : (j u v : ℕ) → u < n → v < n
       → matrixIn places n (matrixWords n (step (language (placesOf p)) n (matrixIn places n a) (settle j) (matrixIn places n r))) u v
       ≡ step (language (placesOf p)) n (matrixIn places n a) (settle j) (matrixIn places n r) u v

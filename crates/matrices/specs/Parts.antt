@@ -1,5 +1,5 @@
--- What the functions of `rows` say and rely on, on the way to Buffers and Steps: one arc taken into a row, rows with no value above
--- 983,025, rows that are the same, and languages of one component.
+-- What the functions of `arcs` and `rows` say and rely on, on the way to Buffers and Steps: one arc taken into a row, rows with no
+-- value above 983,025, rows that are the same, and languages of one component.
 -- They join the code to those; nothing here has to be believed.
 use Prim.Native.Nat.{ℕ}
 use mathlib.Core.Path.{_≡_}

@@ -1,4 +1,4 @@
--- Worked tables: P6, the printed case, and a language without law C in which hot breaks the forwarding equation.
+-- A language without law C in which hot breaks the forwarding equation.
 use Prim.Native.Nat.{ℕ, zero, suc}
 use mathlib.Core.Path.{_≡_, refl, sym, _∙_}
 use mathlib.Core.List.{List, [], _∷_}
@@ -9,46 +9,13 @@ use Rattle.algebra.specs.Best.{bestAmong, best}
 use Rattle.algebra.specs.Modes.{ValidTable, forwarded, onward}
 use Rattle.algebra.proofs.Reach.{best-solves}
 use Rattle.weights.specs.declared.Component.{Component}
-use Rattle.weights.specs.declared.Component.the-variants.{Dist, Width}
+use Rattle.weights.specs.declared.Component.the-variants.{Width}
 use Rattle.weights.specs.Weights.{none, route, language}
 use Rattle.weights.proofs.Decided.{D-holds, U-holds, C-broken}
 use Rattle.weights.proofs.Languages.{lawful}
-use Rattle.modes.specs.declared.Mode.{Mode}
-use Rattle.modes.specs.declared.Mode.the-variants.{Hot, Cold}
+use Rattle.modes.specs.declared.Mode.the-variants.{Hot}
 use Rattle.modes.specs.Entries.{Entry, empty, mapped, modeOf}
 use Rattle.modes.specs.Hot.{HotBreaks}
-
--- ---- the printed case: arcs 0 to 1 of 2, 0 to 2 of 9, 1 to 2 of 3; destination 0 at node 1 with t 7 and at node 2 with t 4
-
-abbrev distance : List Component
-distance = Dist ∷ []
-
-abbrev printedArcs : Matrix (language distance)
-printedArcs zero zero = none
-printedArcs zero (suc zero) = route (2 ∷ [])
-printedArcs zero (suc (suc j)) = route (9 ∷ [])
-printedArcs (suc zero) zero = none
-printedArcs (suc zero) (suc zero) = none
-printedArcs (suc zero) (suc (suc j)) = route (3 ∷ [])
-printedArcs (suc (suc i)) j = none
-
-abbrev printedTable : ℕ → ℕ → Entry
-printedTable zero d = empty
-printedTable (suc zero) d = mapped (0 ∷ []) 7
-printedTable (suc (suc i)) d = mapped (0 ∷ []) 4
-
-abbrev printedSum : Mode → ℕ → Entry
-printedSum mode i = forwarded (language distance) (modeOf mode distance) 3 (best (language distance) 3 printedArcs) printedTable i 0
-
--- the printed table, in cold mode
-pub printed-cold : (printedSum Cold 0 ≡ mapped (5 ∷ []) 4) × (printedSum Cold 1 ≡ mapped (3 ∷ []) 4) × (printedSum Cold 2 ≡ mapped (0 ∷ []) 4)
-unfolding forwarded bestOf pick best bestAmong
-printed-cold = (refl, refl, refl)
-
--- P6: the same file in hot mode
-pub P6 : printedSum Hot 0 ≡ mapped (2 ∷ []) 7
-unfolding forwarded bestOf pick best bestAmong
-P6 = refl
 
 -- ---- hot without law C: width 10, arcs 0 to 1 of 5 and 1 to 2 of 8; destination 0 at node 1 with t 9 and at node 2 with t 1
 

@@ -10,6 +10,7 @@ use lib.ListN.{length}
 use Rattle.refusals.specs.declared.Refusal.the-variants.{Bytes, NoSuch}
 use Rattle.refusals.specs.declared.Check.the-variants.{Passed}
 use Rattle.refusals.specs.Checks.{unless}
+use Rattle.refusals.proofs.First.{unless-passes, both-pass}
 use Rattle.fields.specs.declared.Head.{Head}
 use Rattle.records.specs.declared.Listing.{Listing}
 use Rattle.records.specs.declared.Listing.the-variants.{Arcs, Attachments}
@@ -18,7 +19,6 @@ use Rattle.records.specs.declared.Ends.the-variants.{Arc, Attachment}
 use Rattle.bytes.specs.Bytes.{twoAt}
 use Rattle.records.specs.Records.{endsAt, endsCheck, lengthOf, recordCheck, recordsCheck, recordListCheck, listEnd, bodyCheck}
 use Rattle.records.specs.Parts.{InRange, Listed}
-use Rattle.fields.proofs.Passing.{both-pass, unless-passes}
 
 pub ends-pass : (h : Head) (at : ℕ) (e : Ends) → endsCheck h at e ≡ Passed → InRange h e
 unfolding endsCheck

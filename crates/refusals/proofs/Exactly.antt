@@ -8,7 +8,7 @@ use Rattle.refusals.specs.declared.Check.the-variants.{Passed, Refused}
 use Rattle.refusals.specs.Told.{told}
 use Rattle.refusals.specs.Checks.{unless, checkTold}
 use Rattle.refusals.proofs.OneToOne.{told-one, told-not-done}
-use Rattle.refusals.proofs.First.{passed-not}
+use Rattle.refusals.proofs.First.{passed-not, refused-one}
 
 -- a call tells r's row exactly when its checks refuse r
 pub told-check : (c : Check) (r : Refusal) → (checkTold c ≡ told r) ↔ (c ≡ Refused r)
@@ -17,7 +17,4 @@ told-check (Refused s) r = (λ e. ap Refused (told-one s r e), λ e. ap checkTol
 
 pub unless-refuses : (b : Bool) (r s : Refusal) → (unless b r ≡ Refused s) → (b ≡ false) × (r ≡ s)
 unless-refuses true r s e = absurd (passed-not s e)
-unless-refuses false r s e = (refl, same e)
-  where
-    same : Refused r ≡ Refused s → r ≡ s
-    same q = cc
+unless-refuses false r s e = (refl, refused-one e)

@@ -4,7 +4,7 @@ use Prim.Native.Nat.{ℕ, suc, _+_, _-_, _*_, _≤_, _<_}
 use mathlib.Core.Path.{_≡_, refl, sym, ap, _∙_}
 use mathlib.Core.Bool.{Bool, true, false, cond, _&&_, _||_, false≢true}
 use mathlib.Core.List.{List, [], _∷_, _++_}
-use mathlib.Core.Logic.{_⊎_, inl, inr, _↔_}
+use mathlib.Core.Logic.{_⊎_, inl, inr, _↔_, Iff·trans}
 use native.Mathlib.Omega.{arith}
 use lib.Dec.{leb, ltb, eqb}
 use lib.ListN.{length}
@@ -17,7 +17,7 @@ use Rattle.refusals.specs.declared.Told.{Told}
 use Rattle.refusals.specs.Told.{told, done}
 use Rattle.refusals.specs.Checks.{firstOf, checkTold, Pass, Gives}
 use Rattle.refusals.proofs.OneToOne.{told-not-done}
-use Rattle.refusals.proofs.First.{passed-not, pass-first, first-passes}
+use Rattle.refusals.proofs.First.{passed-not, pass-first, first-passes, refused-one}
 use Rattle.weights.specs.declared.Component.{Component}
 use Rattle.weights.specs.declared.Language.{Language}
 use Rattle.weights.specs.Sizes.{places, weightWords, arcSum, matrixSum}
@@ -31,12 +31,8 @@ use Rattle.matrices.specs.Buffers.{wellFormed, firstMalformed, matrixCheck, Squ
 use Rattle.matrices.proofs.Malformed.{refuses-first, check-refuses}
 use Rattle.routes.specs.Checks.{mostNodes, mostSteps, firstSettle, nodesCheck, lengthCheck, lawDCheck, lawUCheck, manyCheck, isStep, stepsFrom, listCheck, nodeCheck}
 use Rattle.routes.specs.Exact.{NodesInRange, MatrixLong, IsStep, sizes, MatricesRefusals}
-use Rattle.routes.proofs.Order.{refused-one, nodes-passed, length-passed}
+use Rattle.routes.proofs.Order.{nodes-passed, length-passed}
 use Rattle.routes.proofs.OneTeller.{Teller, checksOf, ofNumber, ofBuffer, one, noneTells, given-where}
-
--- one equivalence after another
-pub then : {P Q S : Type 0} → P ↔ Q → Q ↔ S → P ↔ S
-then x y = (λ p. y .0 (x .0 p), λ s. x .1 (y .1 s))
 
 -- a call whose answer is its checks' is done exactly where every check passes
 pub done-exactly : (checks : List Check) (answer : Told) → answer ≡ checkTold (firstOf checks) → (answer ≡ done) ↔ Pass checks
@@ -211,13 +207,13 @@ module _ (l : Language) (n : ℕ) (a r : List ℕ) (rest : List Teller) where
   -- each refusal of the shared checks exactly in its case, for a call that refuses, but for 11, what these checks give
   pub matrices-refusals : Silent rest → (answer : Told) → ((x : Refusal) → eqb (told x .number) 11 ≡ false → (answer ≡ told x) ↔ Gives (checksOf matricesTellers) x) → MatricesRefusals l n a r answer
   matrices-refusals silent answer refuses = record {
-    nodes = then (refuses (Size 1 0) refl) (alone (given-where 0 matricesTellers (Size 1 0) (silent .0) (λ p. nodes-case n)));
-    count = then (refuses (BadCount 0 0) refl) (given-where 1 matricesTellers (BadCount 0 0) (silent .1) (λ p. count-case l));
-    limits = λ k. then (refuses (BadComponent 0 k) refl) (given-where 2 matricesTellers (BadComponent 0 k) (silent .2 k) (λ p. limit-case l k));
-    arcs-length = then (refuses (Length 1 0) refl) (given-where 3 matricesTellers (Length 1 0) (silent .3) (λ p. length-case 1 n a));
-    routes-length = then (refuses (Length 2 0) refl) (given-where 4 matricesTellers (Length 2 0) (silent .4) (λ p. length-case 2 n r));
-    law-D = then (refuses (Law 1 0) refl) (given-where 5 matricesTellers (Law 1 0) (silent .5) (λ p. law-D-missing cs (limits-exact cs .0 (p .1 .1 .0))));
-    law-U = then (refuses (Law 2 0) refl) (law-U-after (sizes l n a r) cs (λ p. limits-exact cs .0 (p .1 .1 .0)) (given-where 6 matricesTellers (Law 2 0) (silent .6) (λ p. law-U-missing cs (limits-exact cs .0 (p .1 .1 .0)))));
-    arcs = λ place. then (refuses (Value 1 place) refl) (given-where 7 matricesTellers (Value 1 place) (silent .7 place) (λ p. check-refuses 1 arcSum cs n a (square 1 a (p .0) (p .1 .1 .1 .0)) (Value 1 place)));
-    routes = λ place. then (refuses (Value 2 place) refl) (given-where 8 matricesTellers (Value 2 place) (silent .8 place) (λ p. check-refuses 2 matrixSum cs n r (square 2 r (p .0) (p .1 .1 .1 .1 .0)) (Value 2 place)));
+    nodes = Iff·trans (refuses (Size 1 0) refl) (alone (given-where 0 matricesTellers (Size 1 0) (silent .0) (λ p. nodes-case n)));
+    count = Iff·trans (refuses (BadCount 0 0) refl) (given-where 1 matricesTellers (BadCount 0 0) (silent .1) (λ p. count-case l));
+    limits = λ k. Iff·trans (refuses (BadComponent 0 k) refl) (given-where 2 matricesTellers (BadComponent 0 k) (silent .2 k) (λ p. limit-case l k));
+    arcs-length = Iff·trans (refuses (Length 1 0) refl) (given-where 3 matricesTellers (Length 1 0) (silent .3) (λ p. length-case 1 n a));
+    routes-length = Iff·trans (refuses (Length 2 0) refl) (given-where 4 matricesTellers (Length 2 0) (silent .4) (λ p. length-case 2 n r));
+    law-D = Iff·trans (refuses (Law 1 0) refl) (given-where 5 matricesTellers (Law 1 0) (silent .5) (λ p. law-D-missing cs (limits-exact cs .0 (p .1 .1 .0))));
+    law-U = Iff·trans (refuses (Law 2 0) refl) (law-U-after (sizes l n a r) cs (λ p. limits-exact cs .0 (p .1 .1 .0)) (given-where 6 matricesTellers (Law 2 0) (silent .6) (λ p. law-U-missing cs (limits-exact cs .0 (p .1 .1 .0)))));
+    arcs = λ place. Iff·trans (refuses (Value 1 place) refl) (given-where 7 matricesTellers (Value 1 place) (silent .7 place) (λ p. check-refuses 1 arcSum cs n a (square 1 a (p .0) (p .1 .1 .1 .0)) (Value 1 place)));
+    routes = λ place. Iff·trans (refuses (Value 2 place) refl) (given-where 8 matricesTellers (Value 2 place) (silent .8 place) (λ p. check-refuses 2 matrixSum cs n r (square 2 r (p .0) (p .1 .1 .1 .1 .0)) (Value 2 place)));
   }

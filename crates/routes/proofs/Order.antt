@@ -12,7 +12,7 @@ use Rattle.refusals.specs.declared.Refusal.the-variants.{Size, NoSuch, Length, 
 use Rattle.refusals.specs.declared.Check.{Check}
 use Rattle.refusals.specs.declared.Check.the-variants.{Passed, Refused}
 use Rattle.refusals.specs.Checks.{unless, orElse, firstOf}
-use Rattle.refusals.proofs.First.{passed-not}
+use Rattle.refusals.proofs.First.{passed-not, unless-passes, or-passed}
 use Rattle.weights.specs.declared.Component.{Component}
 use Rattle.weights.specs.declared.Language.{Language}
 use Rattle.weights.specs.declared.Places.{Places}
@@ -30,10 +30,6 @@ use Rattle.routes.specs.Calls.{freshCheck, matricesChecks}
 use Rattle.routes.specs.Ready.{Passing}
 use Rattle.routes.proofs.Bridge.{check-pad}
 
--- two refusals of one check are equal
-pub refused-one : {r s : Refusal} → Refused r ≡ Refused s → r ≡ s
-refused-one e = cc
-
 -- ---- one check after another
 
 -- a refusal is the answer
@@ -46,11 +42,7 @@ goes-on p q = rw p q
 
 -- the last check
 pub last : {c d : Check} → d ≡ c → orElse c Passed ≡ d
-last {c} e = whole c ∙ sym e
-  where
-    whole : (c : Check) → orElse c Passed ≡ c
-    whole Passed = refl
-    whole (Refused r) = refl
+last {c} e = or-passed c ∙ sym e
 
 -- the same of the code's answer k to a check c: k refuses, or k passes and the rest gives e, or k is all there is
 pub stopped : {c k : Check} {r : Refusal} (d : Check) → k ≡ c → k ≡ Refused r → Refused r ≡ orElse c d
@@ -99,10 +91,6 @@ matrices-rest l n a r rest = all (nodesCheck n ∷ countCheck l ∷ limitCheck l
     all (Refused r ∷ cs) = refl
 
 -- ---- single checks
-
-pub unless-passes : (b : Bool) (r : Refusal) → unless b r ≡ Passed → b ≡ true
-unless-passes true r e = refl
-unless-passes false r e = absurd (passed-not r (sym e))
 
 pub nodes-low : (n : ℕ) → n < 1 → Refused (Size 1 0) ≡ nodesCheck n
 nodes-low n h = rw (lt-leb 1 n h)

@@ -7,7 +7,7 @@ use Rattle.refusals.specs.declared.Answer.{Answer}
 use Rattle.refusals.specs.Told.{told}
 use Rattle.refusals.specs.Checks.{answerTold, checkTold}
 use Rattle.refusals.proofs.OneToOne.{told-one, told-not-done, answer-one}
-use Rattle.refusals.proofs.First.{passed-not}
+use Rattle.refusals.proofs.First.{passed-not, refused-one}
 use Rattle.refusals.proofs.Pinned.{equation-pins}
 use Rattle.weights.specs.declared.Language.{Language}
 use Rattle.weights.proofs.Unique.{places-one}
@@ -20,7 +20,6 @@ use Rattle.routes.specs.declared.Ready.{Ready}
 use Rattle.routes.specs.declared.Ready.the-variants.{Given as Places-given, Refused as Call-refused}
 use Rattle.routes.specs.Calls.{freshCheck, freshLeft, StepsRow, stepsRow, stepsLeft, stepsSaid, EquationRow, equationRow, equationSaid}
 use Rattle.routes.specs.Ready.{FreshReady, MatricesReady}
-use Rattle.routes.proofs.Order.{refused-one}
 
 -- what the buffer of fresh holds is pinned with the answer
 pub fresh-answers-equal : (l : Language) (n : ℕ) (r : List ℕ) (x y : Answer) (left right : List ℕ)

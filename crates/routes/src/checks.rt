@@ -94,7 +94,7 @@ pub fn ready_to_write(l: Language, n: u32, r: &[u32]) -> Ready
 {
     match check_nodes(n) {
         Check::Refused(x) => Ready::Refused(x),
-        Check::Passed => match weights::placing::check(l) {
+        Check::Passed => match placing::check(l) {
             Checked::Unsound(x) => Ready::Refused(x),
             Checked::Sound(p) => match check_length(2, n as usize, r) {
                 Check::Refused(x) => Ready::Refused(x),
@@ -113,7 +113,7 @@ pub fn ready(l: Language, n: u32, a: &[u32], r: &[u32]) -> Ready
 {
     match check_nodes(n) {
         Check::Refused(x) => Ready::Refused(x),
-        Check::Passed => match weights::placing::check(l) {
+        Check::Passed => match placing::check(l) {
             Checked::Unsound(x) => Ready::Refused(x),
             Checked::Sound(p) => match check_lengths(n as usize, a, r) {
                 Check::Refused(x) => Ready::Refused(x),

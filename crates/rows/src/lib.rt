@@ -1,4 +1,3 @@
-// Rows of a matrix: an arc taken into a row, the row step, and the routing equation row by row.
-pub mod arcs;
+// Rows of a matrix: the row step, and the routing equation row by row.
 pub mod equation;
 pub mod stepping;

@@ -1,5 +1,4 @@
 // Row steps: row i worked out anew beside the matrix, and put in its place where every sum fits.
-use super::arcs;
 use matrices::fresh;
 use numbers::Node;
 use weights::MATRIX_SUM;

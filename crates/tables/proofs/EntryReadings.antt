@@ -19,6 +19,7 @@ use Rattle.weights.specs.Languages.{placesOf}
 use Rattle.weights.specs.Values.{weightOf}
 use Rattle.weights.specs.Words.{allAre, fits, Reading, good, malformed, reading, readOf}
 use Rattle.weights.proofs.Buffers.{four-words}
+use Rattle.weights.proofs.Readings.{good-one}
 use Rattle.modes.specs.declared.Mode.{Mode}
 use Rattle.modes.specs.Entries.{empty, mapped, largestT}
 use Rattle.tables.specs.Tables.{EntryReading, goodEntry, badEntry, readsRoute, readingEntry, entryAt, tablePlace, tableIn}
@@ -57,9 +58,6 @@ module _ (mode : Mode) (t : ℕ) (l : List ℕ) where
 
   abbrev entryRead : Bool → Bool → EntryReading
   entryRead x y = cond (x && eqb t ones) (goodEntry empty) (cond (readsRoute (weightRead x y) && leb t (largestT mode)) (goodEntry (mapped l t)) badEntry)
-
-  good-one : {v w : Weight} → good v ≡ good w → v ≡ w
-  good-one e = cc
 
   apart : {w : Weight} {A : Type 0} → malformed ≡ good w → A
   apart e = let z : _≡_ {A = ℕ} 0 1 = cc in absurd (omega arith)

@@ -1,5 +1,5 @@
--- The table that forwarding writes: where R satisfies the routing equation it satisfies the forwarding equation, its sums are at most
--- 1,048,560, and its words are well-formed and stand for its entries.
+-- The table that forwarding writes is well-formed, its sums at most 1,048,560. A matrix of best weights satisfies the routing equation,
+-- which forwarding asks for.
 use Prim.Native.Nat.{ℕ, _+_, _≤_, _<_}
 use mathlib.Core.Path.{_≡_, refl, sym, subst}
 use mathlib.Core.Bool.{true, false}
@@ -9,31 +9,30 @@ use borrow.Author.Tests.{ne-eqb, le-leb}
 use lib.Dec.{eqb}
 use Rattle.algebra.specs.Path.{Matrix, ValidMatrix}
 use Rattle.algebra.specs.Best.{Best}
-use Rattle.algebra.specs.Modes.{carried, forwarded, Forwards, BestForwarded}
+use Rattle.algebra.specs.Modes.{carried, forwarded}
 use Rattle.algebra.proofs.Reach.{column-solves}
 use Rattle.weights.specs.declared.Component.{Component}
 use Rattle.weights.specs.declared.Component.the-variants.{Dist, Width, Class, Gain}
 use Rattle.weights.specs.declared.Places.{Places}
 use Rattle.weights.specs.Sizes.{places, ones, arcSum, matrixSum, tableSum}
 use Rattle.weights.specs.Weights.{Weight, none, route, Valid, ValidValue, ValidValues, Sound, language}
-use Rattle.weights.specs.Laws.{testD, testU, testC}
+use Rattle.weights.specs.Laws.{testD, testU}
 use Rattle.weights.specs.Languages.{placesOf}
 use Rattle.weights.specs.Values.{AtMost, AllAtMost}
 use Rattle.weights.specs.Words.{inRange, fits}
 use Rattle.weights.proofs.Ordering.{join-valid}
 use Rattle.weights.proofs.Languages.{lawful}
 use Rattle.matrices.specs.Buffers.{matrixIn}
-use Rattle.matrices.specs.Steps.{solves, Given}
+use Rattle.matrices.specs.Steps.{solves}
 use Rattle.matrices.proofs.Bounds.{formed-valid, formed-most, join-most}
 use Rattle.matrices.proofs.Every.{solves-exactly}
 use Rattle.modes.specs.declared.Mode.{Mode}
-use Rattle.modes.specs.Entries.{Entry, empty, mapped, applied, largestT, modeOf, needsC}
-use Rattle.tables.specs.Tables.{wordsOf, readingEntry, isGoodEntry, decodedEntry, tableWords, tableIn, FormedTable}
+use Rattle.modes.specs.Entries.{Entry, empty, mapped, applied, largestT, modeOf}
+use Rattle.tables.specs.Tables.{wordsOf, readingEntry, isGoodEntry, tableWords, tableIn, FormedTable}
 use Rattle.tables.specs.Parts.{GivenTable}
 use Rattle.modes.proofs.EntrySums.{best-keeps}
-use Rattle.modes.proofs.SemiModules.{language-forwards, language-forwarded-best}
 use Rattle.tables.proofs.Summing.{Entered, table-entered}
-use Rattle.tables.proofs.TableBlocks.{length-table, table-five, table-reads}
+use Rattle.tables.proofs.TableBlocks.{length-table, table-five}
 
 -- ---- what is forwarded is an entry of the language and the mode
 
@@ -73,44 +72,30 @@ values-in cap [] (x ∷ xs) h k = absurd k
 values-in cap (c ∷ cs) [] h k = absurd k
 values-in cap (c ∷ cs) (x ∷ xs) h k = rw (value-in cap c x (h .0) (k .0), values-in cap cs xs (h .1) (k .1))
 
--- an entry's words are well-formed and stand for it
-pub record StandsIn (mode : Mode) (cap : ℕ) (p : Places) (e : Entry) : Type 0 where
-  pub reads : isGoodEntry (readingEntry mode cap (placesOf p) (wordsOf e)) ≡ true
-  pub back : decodedEntry places (wordsOf e) ≡ e
-
-stands4 : (mode : Mode) (cap : ℕ) (p : Places) (e : Entry) → cap < ones → Entered mode cap (placesOf p) e → StandsIn mode cap p e
+-- an entry's words are well-formed
+reads4 : (mode : Mode) (cap : ℕ) (p : Places) (e : Entry) → cap < ones → Entered mode cap (placesOf p) e → isGoodEntry (readingEntry mode cap (placesOf p) (wordsOf e)) ≡ true
 unfolding wordsOf
-stands4 mode cap p empty l h = record { reads = refl; back = refl }
-stands4 mode cap p (mapped [] t) l h = absurd (h .valid .0)
-stands4 mode cap p (mapped (x ∷ []) t) l h = absurd (h .valid .0 .1)
-stands4 mode cap p (mapped (x ∷ y ∷ []) t) l h = absurd (h .valid .0 .1 .1)
-stands4 mode cap p (mapped (x ∷ y ∷ z ∷ []) t) l h = absurd (h .valid .0 .1 .1 .1)
-stands4 mode cap p (mapped (x ∷ y ∷ z ∷ v ∷ []) t) l h =
+reads4 mode cap p empty l h = refl
+reads4 mode cap p (mapped [] t) l h = absurd (h .valid .0)
+reads4 mode cap p (mapped (x ∷ []) t) l h = absurd (h .valid .0 .1)
+reads4 mode cap p (mapped (x ∷ y ∷ []) t) l h = absurd (h .valid .0 .1 .1)
+reads4 mode cap p (mapped (x ∷ y ∷ z ∷ []) t) l h = absurd (h .valid .0 .1 .1 .1)
+reads4 mode cap p (mapped (x ∷ y ∷ z ∷ v ∷ []) t) l h =
     let q : x ≤ cap = h .most .0 in
     let ne : eqb x ones ≡ false = ne-eqb x ones (λ e. omega arith) in
-    record {
-      reads = rw (ne, values-in cap (placesOf p) (x ∷ y ∷ z ∷ v ∷ []) (h .most) (h .valid .0), le-leb t (largestT mode) (h .valid .1));
-      back = rw ne;
-    }
-stands4 mode cap p (mapped (x ∷ y ∷ z ∷ v ∷ u ∷ xs) t) l h = absurd (h .valid .0 .1 .1 .1 .1)
+    rw (ne, values-in cap (placesOf p) (x ∷ y ∷ z ∷ v ∷ []) (h .most) (h .valid .0), le-leb t (largestT mode) (h .valid .1))
+reads4 mode cap p (mapped (x ∷ y ∷ z ∷ v ∷ u ∷ xs) t) l h = absurd (h .valid .0 .1 .1 .1 .1)
 
 module _ (mode : Mode) (p : Places) (n m : ℕ) (r s : List ℕ) (g : GivenTable mode (placesOf p) n m r s) where
   abbrev F : ℕ → ℕ → Entry
   F = forwarded (language (placesOf p)) (modeOf mode (placesOf p)) n (matrixIn places n r) (tableIn places m s)
 
-  sum-stands : (i d : ℕ) → i < n → d < m → StandsIn mode tableSum p (F i d)
-  sum-stands i d hi hd = stands4 mode tableSum p (F i d) (omega arith) (sum-entered mode p n m r s g i d hi hd)
-
   -- the forwarded table is well-formed, its sums at most 1,048,560
   pub sum-formed : FormedTable mode tableSum (placesOf p) n m (tableWords n m F)
   sum-formed = record {
     sized = record { few-nodes = g .table .sized .few-nodes; few-destinations = g .table .sized .few-destinations; long = length-table n m F };
-    reads = λ i d hi hd. subst (λ (l : List ℕ). isGoodEntry (readingEntry mode tableSum (placesOf p) l) ≡ true) (sym (table-five n m F i d hi hd)) (sum-stands i d hi hd .reads);
+    reads = λ i d hi hd. subst (λ (l : List ℕ). isGoodEntry (readingEntry mode tableSum (placesOf p) l) ≡ true) (sym (table-five n m F i d hi hd)) (reads4 mode tableSum p (F i d) (omega arith) (sum-entered mode p n m r s g i d hi hd));
   }
-
-  -- .. and its words stand for its entries
-  pub sum-reads : (i d : ℕ) → i < n → d < m → tableIn places m (tableWords n m F) i d ≡ F i d
-  sum-reads i d hi hd = table-reads n m F i d hi hd (sum-stands i d hi hd .back)
 
 -- ---- where R holds the best weights, the routing equation holds: 12 is never given
 
@@ -118,21 +103,3 @@ pub best-solves : (cs : List Component) → Sound cs → testD cs ≡ true → t
     → ((i j : ℕ) → i < n → j < n → Best (language cs) n A i j (R i j)) → solves cs n A R ≡ true
 best-solves cs sound d u n A R A-valid b =
     solves-exactly cs n A R .1 (λ i j hi hj. column-solves (record { 𝓐 = language cs; 𝓛 = lawful cs sound d u; n = n; A = A; arcs-valid = A-valid }) R j (λ i hi. b i j hi hj) i hi)
-
--- ---- the forwarding equation
-
-module _ (mode : Mode) (p : Places) (n m : ℕ) (a r s : List ℕ) (g : Given (placesOf p) n a r) (t : FormedTable mode arcSum (placesOf p) n m s) (c : needsC mode ≡ true → testC (placesOf p) ≡ true) where
-  -- Where the test of the routing equation holds, the table that forwarding writes satisfies F = (A applied to F) best M.
-  pub table-forwards : solves (placesOf p) n (matrixIn places n a) (matrixIn places n r) ≡ true
-      → Forwards (language (placesOf p)) (modeOf mode (placesOf p)) n m (matrixIn places n a) (tableIn places m s)
-      (forwarded (language (placesOf p)) (modeOf mode (placesOf p)) n (matrixIn places n r) (tableIn places m s))
-  table-forwards e = language-forwards mode (placesOf p) (g .sound) (g .law-D) (g .law-U) c n m (matrixIn places n a)
-      (formed-valid arcSum p n a (g .arcs)) (tableIn places m s) (λ i d hi hd. table-entered mode arcSum p (omega arith) (g .limits) n m s t i d hi hd .valid)
-      (matrixIn places n r) (formed-valid matrixSum p n r (g .routes)) (solves-exactly (placesOf p) n (matrixIn places n a) (matrixIn places n r) .0 e)
-
-  -- Where R holds the best weights, F(i,d) is the best over k and over the paths from i to k of the path's weight applied to M(k,d).
-  pub table-best : ((i j : ℕ) → i < n → j < n → Best (language (placesOf p)) n (matrixIn places n a) i j (matrixIn places n r i j)) → (i d : ℕ) → i < n → d < m
-      → BestForwarded (language (placesOf p)) (modeOf mode (placesOf p)) n (matrixIn places n a) (tableIn places m s) i d
-      (forwarded (language (placesOf p)) (modeOf mode (placesOf p)) n (matrixIn places n r) (tableIn places m s) i d)
-  table-best = language-forwarded-best mode (placesOf p) (g .sound) (g .law-D) (g .law-U) c n m (matrixIn places n a)
-      (formed-valid arcSum p n a (g .arcs)) (tableIn places m s) (λ i d hi hd. table-entered mode arcSum p (omega arith) (g .limits) n m s t i d hi hd .valid) (matrixIn places n r)

@@ -1,20 +1,16 @@
--- The words of entries one after another: their lengths, an entry written, and the entries that the words of a table stand for.
-use Prim.Native.Nat.{ℕ, zero, suc, _+_, _*_, _≤_, _<_}
+-- The words of entries one after another: their lengths, an entry written, and the words of an entry of a table.
+use Prim.Native.Nat.{ℕ, _+_, _*_, _≤_, _<_}
 use mathlib.Core.Path.{_≡_, refl, sym, ap, _∙_}
 use mathlib.Core.List.{List, [], _∷_, _++_, append-assoc}
 use native.Mathlib.Omega.{arith}
 use lib.ListN.{length, take, drop, length-append, take-append-drop}
 use lib.Seq.{sets, sets-eq, drop-drop}
-use Rattle.weights.specs.Sizes.{places, weightWords, entryWords}
+use Rattle.weights.specs.Sizes.{weightWords, entryWords}
 use Rattle.weights.specs.Words.{filled}
+use Rattle.weights.proofs.Readings.{length-filled}
 use Rattle.matrices.proofs.Blocks.{length-blocks, blocks-at, front-at, blocks-cong}
 use Rattle.modes.specs.Entries.{Entry, empty, mapped}
-use Rattle.tables.specs.Tables.{wordsOf, tableRowWords, tableWords, entryAt, tablePlace, tableIn, decodedEntry}
-
-length-filled : (n : ℕ) (xs : List ℕ) → length (filled n xs) ≡ n
-length-filled zero xs = refl
-length-filled (suc n) [] = ap suc (length-filled n [])
-length-filled (suc n) (x ∷ xs) = ap suc (length-filled n xs)
+use Rattle.tables.specs.Tables.{wordsOf, tableRowWords, tableWords, entryAt, tablePlace}
 
 pub length-entry : (e : Entry) → length (wordsOf e) ≡ entryWords
 unfolding wordsOf
@@ -44,8 +40,3 @@ table-five n m M i d hi hd =
     let e : l ≡ tableRowWords m (M i) ++ drop (m * entryWords) l = sym (take-append-drop (m * entryWords) l) ∙ ap (λ (k : List ℕ). k ++ drop (m * entryWords) l) (blocks-at (m * entryWords) (λ i. tableRowWords m (M i)) (λ i. length-row m (M i)) n i hi) in
     ap (take entryWords) (sym (drop-drop (d * entryWords) (i * (m * entryWords)) (tableWords n m M)) ∙ ap (drop (d * entryWords)) e)
     ∙ front-at entryWords (λ d. wordsOf (M i d)) (λ d. length-entry (M i d)) m d (drop (m * entryWords) l) hd
-
--- entry (i, d) of the words of a table whose entry there is read back
-pub table-reads : (n m : ℕ) (M : ℕ → ℕ → Entry) (i d : ℕ) → i < n → d < m → decodedEntry places (wordsOf (M i d)) ≡ M i d → tableIn places m (tableWords n m M) i d ≡ M i d
-unfolding tableIn
-table-reads n m M i d hi hd e = ap (decodedEntry places) (table-five n m M i d hi hd) ∙ e

@@ -1,7 +1,6 @@
-// Mapping and forwarding tables in flat buffers, by rows: their entries and checks, and the forwarding sum.
+// Mapping and forwarding tables in flat buffers, by rows: their entries and their checks.
 pub mod checks;
 pub mod entries;
-pub mod forwarding;
 
 use modes::Entry;
 

@@ -14,7 +14,7 @@ use Rattle.refusals.specs.declared.Check.the-variants.{Passed, Refused}
 use Rattle.refusals.specs.Told.{told, done}
 use Rattle.refusals.specs.Checks.{orElse}
 use Rattle.refusals.proofs.OneToOne.{told-one, told-not-done}
-use Rattle.refusals.proofs.First.{first-passes}
+use Rattle.refusals.proofs.First.{first-passes, unless-passes}
 use Rattle.numbers.specs.declared.Node.{Node}
 use Rattle.weights.specs.declared.Component.{Component}
 use Rattle.weights.specs.declared.Language.{Language}
@@ -24,7 +24,7 @@ use Rattle.laws.specs.declared.LawAnswer.the-variants.{Laws, Refused as NoLaws}
 use Rattle.laws.specs.Report.{Report, reportOf, report, lawOf, answerRow}
 use Rattle.routes.specs.Checks.{nodeCheck}
 use Rattle.routes.specs.Calls.{matricesChecks}
-use Rattle.routes.proofs.Order.{pair, stops, goes-on, nodes-passed, unless-passes}
+use Rattle.routes.proofs.Order.{pair, stops, goes-on, nodes-passed}
 use Rattle.hops.specs.declared.HopAnswer.the-variants.{Hop, Refused as HopRefused}
 use Rattle.hops.specs.Calls.{HopRow, hopRow, hopSaid}
 use Rattle.hops.proofs.Exact.{hop-given}

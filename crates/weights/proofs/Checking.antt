@@ -11,8 +11,8 @@ use lib.ListN.{length, take, length-take}
 use Rattle.refusals.specs.declared.Refusal.the-variants.{BadComponent, BadCount}
 use Rattle.refusals.specs.declared.Check.{Check}
 use Rattle.refusals.specs.declared.Check.the-variants.{Passed, Refused}
-use Rattle.refusals.specs.Checks.{unless, orElse}
-use Rattle.refusals.proofs.First.{passed-not, first-passes}
+use Rattle.refusals.specs.Checks.{unless}
+use Rattle.refusals.proofs.First.{passed-not, or-passed, first-passes}
 use Rattle.weights.specs.declared.Component.{Component}
 use Rattle.weights.specs.declared.Component.the-variants.{Dist, Width, Class, Gain}
 use Rattle.weights.specs.declared.Language.{Language}
@@ -28,10 +28,6 @@ count-low l h = rw (lt-leb 1 (l .count) h)
 
 pub count-high : (l : Language) → places < l .count → languageCheck l ≡ Refused (BadCount 0 0)
 count-high l h = rw (lt-leb (l .count) places h, and-false)
-
-or-passed : (c : Check) → orElse c Passed ≡ c
-or-passed Passed = refl
-or-passed (Refused r) = refl
 
 pub count-in : (l : Language) → 1 ≤ l .count → l .count ≤ places → languageCheck l ≡ limitCheck l
 count-in l h k = rw (le-leb 1 (l .count) h, le-leb (l .count) places k) (or-passed (limitCheck l))

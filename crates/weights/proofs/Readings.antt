@@ -2,7 +2,7 @@
 -- language's with words 0 after it. What is read is valid, and reads back.
 use Prim.Native.Nat.{ℕ, zero, suc, _≤_, _<_}
 use mathlib.Core.Path.{_≡_, refl, sym, ap, ap₂, _∙_}
-use mathlib.Core.Bool.{Bool, true, false, cond, _&&_}
+use mathlib.Core.Bool.{Bool, true, false, cond, _&&_, and-eq-true-iff}
 use mathlib.Core.List.{List, [], _∷_}
 use native.Mathlib.Omega.{arith}
 use lib.Dec.{leb, eqb}
@@ -15,13 +15,9 @@ use Rattle.weights.specs.Sizes.{weightWords, ones}
 use Rattle.weights.specs.Weights.{Weight, none, route, Valid, ValidValue, ValidValues}
 use Rattle.weights.specs.Languages.{padded}
 use Rattle.weights.specs.Written.{NotOnes, SumsUpTo, WeightUpTo, Written}
-use Rattle.weights.specs.Words.{filled, words, allAre, inRange, fits, Reading, good, malformed, reading, isGood, decoded}
+use Rattle.weights.specs.Words.{filled, words, allAre, inRange, fits, good, malformed, reading, isGood, decoded}
 use Rattle.weights.proofs.Ordering.{clash}
 use Rattle.weights.proofs.Padding.{padWeight}
-
-pub both : (a b : Bool) → (a && b) ≡ true → (a ≡ true) × (b ≡ true)
-both true b e = (refl, e)
-both false b e = clash false e refl
 
 -- ---- the padded language takes the same words
 
@@ -43,27 +39,27 @@ zeros-filled : (n : ℕ) (ws : List ℕ) → length ws ≡ n → allAre 0 ws ≡
 zeros-filled zero [] h e = refl
 zeros-filled zero (x ∷ ws) h e = absurd (omega arith)
 zeros-filled (suc n) [] h e = absurd (omega arith)
-zeros-filled (suc n) (x ∷ ws) h e = let p = both (eqb x 0) (allAre 0 ws) e in ap₂ _∷_ (sym (eqb-true x 0 (p .0))) (zeros-filled n ws (omega arith) (p .1))
+zeros-filled (suc n) (x ∷ ws) h e = let p = and-eq-true-iff (eqb x 0) (allAre 0 ws) .0 e in ap₂ _∷_ (sym (eqb-true x 0 (p .0))) (zeros-filled n ws (omega arith) (p .1))
 
 -- the words are the values with words 0 after them
 pub fits-filled : (cap n : ℕ) (cs : List Component) (ws : List ℕ) → length ws ≡ n → fits cap cs ws ≡ true → filled n (take (length cs) ws) ≡ ws
 fits-filled cap n [] ws h e = zeros-filled n ws h e
 fits-filled cap n (c ∷ cs) [] h e = clash false e refl
 fits-filled cap zero (c ∷ cs) (x ∷ ws) h e = absurd (omega arith)
-fits-filled cap (suc n) (c ∷ cs) (x ∷ ws) h e = ap (x ∷_) (fits-filled cap n cs ws (omega arith) (both (inRange cap c x) (fits cap cs ws) e .1))
+fits-filled cap (suc n) (c ∷ cs) (x ∷ ws) h e = ap (x ∷_) (fits-filled cap n cs ws (omega arith) (and-eq-true-iff (inRange cap c x) (fits cap cs ws) .0 e .1))
 
 -- ---- what is read is valid
 
-in-range-valid : (cap : ℕ) (c : Component) (v : ℕ) → inRange cap c v ≡ true → ValidValue c v
+pub in-range-valid : (cap : ℕ) (c : Component) (v : ℕ) → inRange cap c v ≡ true → ValidValue c v
 in-range-valid cap Dist v e = tt
-in-range-valid cap (Width w) v e = let p = both (leb 1 v) (leb v w) e in (leb-true 1 v (p .0), leb-true v w (p .1))
+in-range-valid cap (Width w) v e = let p = and-eq-true-iff (leb 1 v) (leb v w) .0 e in (leb-true 1 v (p .0), leb-true v w (p .1))
 in-range-valid cap (Class k) v e = leb-true v k e
 in-range-valid cap Gain v e = tt
 
 pub fits-valid : (cap : ℕ) (cs : List Component) (ws : List ℕ) → fits cap cs ws ≡ true → ValidValues cs (take (length cs) ws)
 fits-valid cap [] ws e = tt
 fits-valid cap (c ∷ cs) [] e = clash false e refl
-fits-valid cap (c ∷ cs) (x ∷ ws) e = let p = both (inRange cap c x) (fits cap cs ws) e in (in-range-valid cap c x (p .0), fits-valid cap cs ws (p .1))
+fits-valid cap (c ∷ cs) (x ∷ ws) e = let p = and-eq-true-iff (inRange cap c x) (fits cap cs ws) .0 e in (in-range-valid cap c x (p .0), fits-valid cap cs ws (p .1))
 
 -- ---- readings
 
@@ -100,7 +96,14 @@ good-pad cap n cs ws h k = rw (fits-pad cap n cs ws h k) (go (allAre ones ws) (f
 
 -- ---- what is written reads back
 
-take-filled : (n : ℕ) (cs : List Component) (xs : List ℕ) → length cs ≤ n → ValidValues cs xs → take (length cs) (filled n xs) ≡ xs
+-- so many words
+pub length-filled : (n : ℕ) (xs : List ℕ) → length (filled n xs) ≡ n
+length-filled zero xs = refl
+length-filled (suc n) [] = ap suc (length-filled n [])
+length-filled (suc n) (x ∷ xs) = ap suc (length-filled n xs)
+
+-- .. the first of which are the values
+pub take-filled : (n : ℕ) (cs : List Component) (xs : List ℕ) → length cs ≤ n → ValidValues cs xs → take (length cs) (filled n xs) ≡ xs
 take-filled n [] [] h v = refl
 take-filled n [] (x ∷ xs) h v = absurd v
 take-filled n (c ∷ cs) [] h v = absurd v
@@ -121,10 +124,10 @@ reads-back cs (route xs) h v k = rw (not-ones xs k) (ap route (take-filled weigh
 fits-sums : (cap : ℕ) (cs : List Component) (ws : List ℕ) → fits cap cs ws ≡ true → SumsUpTo cap cs (take (length cs) ws)
 fits-sums cap [] ws e = tt
 fits-sums cap (c ∷ cs) [] e = clash false e refl
-fits-sums cap (Dist ∷ cs) (x ∷ ws) e = let p = both (leb x cap) (fits cap cs ws) e in (leb-true x cap (p .0), fits-sums cap cs ws (p .1))
-fits-sums cap (Width w ∷ cs) (x ∷ ws) e = fits-sums cap cs ws (both (inRange cap (Width w) x) (fits cap cs ws) e .1)
-fits-sums cap (Class k ∷ cs) (x ∷ ws) e = fits-sums cap cs ws (both (inRange cap (Class k) x) (fits cap cs ws) e .1)
-fits-sums cap (Gain ∷ cs) (x ∷ ws) e = let p = both (leb x cap) (fits cap cs ws) e in (leb-true x cap (p .0), fits-sums cap cs ws (p .1))
+fits-sums cap (Dist ∷ cs) (x ∷ ws) e = let p = and-eq-true-iff (leb x cap) (fits cap cs ws) .0 e in (leb-true x cap (p .0), fits-sums cap cs ws (p .1))
+fits-sums cap (Width w ∷ cs) (x ∷ ws) e = fits-sums cap cs ws (and-eq-true-iff (inRange cap (Width w) x) (fits cap cs ws) .0 e .1)
+fits-sums cap (Class k ∷ cs) (x ∷ ws) e = fits-sums cap cs ws (and-eq-true-iff (inRange cap (Class k) x) (fits cap cs ws) .0 e .1)
+fits-sums cap (Gain ∷ cs) (x ∷ ws) e = let p = and-eq-true-iff (leb x cap) (fits cap cs ws) .0 e in (leb-true x cap (p .0), fits-sums cap cs ws (p .1))
 
 zeros-are : (n : ℕ) → allAre 0 (filled n []) ≡ true
 zeros-are zero = refl
@@ -150,9 +153,9 @@ ones-words : (n : ℕ) (ws : List ℕ) → length ws ≡ n → allAre ones ws �
 ones-words zero [] h e = refl
 ones-words zero (x ∷ ws) h e = absurd (omega arith)
 ones-words (suc n) [] h e = absurd (omega arith)
-ones-words (suc n) (x ∷ ws) h e = let p = both (eqb x ones) (allAre ones ws) e in ap₂ _∷_ (eqb-true x ones (p .0)) (ones-words n ws (omega arith) (p .1))
+ones-words (suc n) (x ∷ ws) h e = let p = and-eq-true-iff (eqb x ones) (allAre ones ws) .0 e in ap₂ _∷_ (eqb-true x ones (p .0)) (ones-words n ws (omega arith) (p .1))
 
-good-one : {v w : Weight} → good v ≡ good w → v ≡ w
+pub good-one : {v w : Weight} → good v ≡ good w → v ≡ w
 good-one e = cc
 
 -- .. and words that are read as a weight are its words, and it is a weight of the language with sums at most cap

@@ -1,7 +1,7 @@
 -- The sum at a component (dist or gain): it adds up under join at most, and is at most the cap that a reading was given.
 use Prim.Native.Nat.{ℕ, zero, suc, _+_, _≤_}
 use mathlib.Core.Path.{_≡_, refl}
-use mathlib.Core.Bool.{true, false}
+use mathlib.Core.Bool.{true, false, and-eq-true-iff}
 use mathlib.Core.List.{List, [], _∷_}
 use native.Mathlib.Omega.{arith}
 use lib.ListN.{length, take}
@@ -13,7 +13,7 @@ use Rattle.weights.specs.Weights.{Weight, none, route, joinValues, unitV
 use Rattle.weights.specs.Sums.{sumHere, sumOf, sumAt}
 use Rattle.weights.specs.Words.{inRange, fits, decoded}
 use Rattle.weights.proofs.Ordering.{clash}
-use Rattle.weights.proofs.Readings.{Well, noRoute, values, both}
+use Rattle.weights.proofs.Readings.{Well, noRoute, values}
 
 sum-unit : (cs : List Component) (c : ℕ) → sumOf cs c (unitValues cs) ≡ 0
 sum-unit [] c = refl
@@ -52,8 +52,8 @@ in-range-sum cap Gain v e = leb-true v cap e
 fits-sum : (cap : ℕ) (cs : List Component) (c : ℕ) (ws : List ℕ) → fits cap cs ws ≡ true → sumOf cs c (take (length cs) ws) ≤ cap
 fits-sum cap [] c ws e = omega arith
 fits-sum cap (k ∷ cs) c [] e = clash false e refl
-fits-sum cap (k ∷ cs) zero (x ∷ ws) e = in-range-sum cap k x (both (inRange cap k x) (fits cap cs ws) e .0)
-fits-sum cap (k ∷ cs) (suc c) (x ∷ ws) e = fits-sum cap cs c ws (both (inRange cap k x) (fits cap cs ws) e .1)
+fits-sum cap (k ∷ cs) zero (x ∷ ws) e = in-range-sum cap k x (and-eq-true-iff (inRange cap k x) (fits cap cs ws) .0 e .0)
+fits-sum cap (k ∷ cs) (suc c) (x ∷ ws) e = fits-sum cap cs c ws (and-eq-true-iff (inRange cap k x) (fits cap cs ws) .0 e .1)
 
 pub well-sum : (cap : ℕ) (cs : List Component) (c : ℕ) (ws : List ℕ) → Well cap cs ws → sumAt cs c (decoded (length cs) ws) ≤ cap
 well-sum cap cs c ws (noRoute e) = rw e (omega arith)

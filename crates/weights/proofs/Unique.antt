@@ -1,9 +1,7 @@
 -- What the contracts say of a weight, a reading or a check pins it: two answers that meet one contract are equal.
 use mathlib.Core.Path.{_≡_, refl, sym, ap, _∙_}
 use mathlib.Core.Bool.{true, false}
-use Rattle.refusals.specs.declared.Refusal.{Refusal}
-use Rattle.refusals.specs.declared.Check.the-variants.{Refused}
-use Rattle.refusals.proofs.First.{passed-not}
+use Rattle.refusals.proofs.First.{passed-not, refused-one}
 use Rattle.weights.specs.declared.Language.{Language}
 use Rattle.weights.specs.declared.Places.{Places}
 use Rattle.weights.specs.declared.Checked.{Checked}
@@ -49,6 +47,3 @@ checked-one l (Sound p) (Sound q) h k = ap Sound (places-one p q (h .1 ∙ sym (
 checked-one l (Sound p) (Unsound r) h k = absurd (passed-not r (sym (h .0) ∙ k))
 checked-one l (Unsound r) (Sound q) h k = absurd (passed-not r (sym (k .0) ∙ h))
 checked-one l (Unsound r) (Unsound s) h k = ap Unsound (refused-one (sym h ∙ k))
-  where
-    refused-one : {r s : Refusal} → Refused r ≡ Refused s → r ≡ s
-    refused-one e = cc

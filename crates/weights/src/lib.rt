@@ -2,7 +2,6 @@
 pub mod comparing;
 pub mod gaining;
 pub mod joining;
-pub mod placing;
 
 use refusals::Refusal;
 

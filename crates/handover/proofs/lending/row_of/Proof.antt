@@ -2,14 +2,15 @@ use Prim.Native.Nat.{_+_, _*_, _≤_}
 use native.Mathlib.Omega.{arith}
 use lib.ListN.{length}
 use Rattle.weights.specs.Sizes.{weightWords}
-use Rattle.handover.proofs.Rows.{row-in, row-words, row-start}
+use Rattle.matrices.proofs.Entries.{row-room}
+use Rattle.handover.proofs.Rows.{row-words, row-start}
 use borrow.Author.Needs.{needs}
 use Rattle.handover.proofs.lending.row_of.Statement.{statement}
 use Rattle.handover.proofs.lending.row_of.Tie as tie
 
 -- row i lies within the matrix, which is small
 room : (s : tie.Start) → (s .args .i * (s .args .n * weightWords) + s .args .n * weightWords ≤ length (s .args .s .now)) × (length (s .args .s .now) ≤ 1024)
-room s = row-in (s .args .n) (s .args .i) (s .args .s .now) (s .pre .0) (s .pre .1)
+room s = row-room (s .args .n) (s .args .i) (s .args .s .now) (s .pre .0) (s .pre .1)
 
 mul-words : tie.Need-mul-words
 mul-words c = search needs

@@ -1,6 +1,6 @@
 use borrow.Author.Tests.{lt-leb, le-leb}
+use Rattle.refusals.proofs.First.{or-passed}
 use Rattle.records.specs.Records.{bodyCheck}
-use Rattle.fields.proofs.Passing.{or-passed}
 use borrow.Author.Needs.{needs}
 use Rattle.records.proofs.lists.body_check.Statement.{statement}
 use Rattle.records.proofs.lists.body_check.Tie as tie
