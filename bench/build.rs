@@ -4,7 +4,7 @@
 use std::path::{Path, PathBuf};
 use std::{env, fs, process};
 
-const CRATES: [&str; 24] = [
+const CRATES: [&str; 26] = [
     "refusals",
     "numbers",
     "weights",
@@ -13,12 +13,14 @@ const CRATES: [&str; 24] = [
     "laws",
     "matrices",
     "modes",
+    "guards",
     "arcs",
     "rows",
     "columns",
     "holding",
     "tables",
     "sums",
+    "table_guards",
     "routes",
     "steps",
     "forwarding",

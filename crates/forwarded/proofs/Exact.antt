@@ -42,15 +42,16 @@ use Rattle.modes.specs.Entries.{modeFor, needsC}
 use Rattle.tables.specs.Tables.{wellFormedEntry, Sized}
 use Rattle.tables.proofs.Forwarded.{best-solves}
 use Rattle.tables.proofs.MalformedEntries as entries
-use Rattle.routes.specs.Checks.{nodesCheck, lengthCheck, lawDCheck, lawUCheck, arcsCheck, routesCheck}
+use Rattle.guards.specs.Checks.{nodesCheck, lengthCheck, lawDCheck, lawUCheck, arcsCheck, routesCheck}
 use Rattle.routes.specs.Calls.{matrixOf}
 use Rattle.routes.proofs.Bridge.{entry-valid}
-use Rattle.routes.proofs.Order.{goes-on, nodes-passed, length-passed}
+use Rattle.routes.proofs.Order.{goes-on}
+use Rattle.guards.proofs.Singles.{nodes-passed, length-passed}
 use Rattle.routes.proofs.OneTeller.{Teller, checksOf, ofBuffer, one, earlier, checkAt, onlyTells, given-where}
 use Rattle.routes.proofs.Cases.{done-exactly, alone, eqb-exactly, nodes-case, length-case, law-D-missing, law-U-missing, law-U-after, nodesTeller, countTeller, limitTeller, lengthTeller, lawDTeller, lawUTeller, malformed-tell, matrixTeller}
-use Rattle.forwarding.specs.Checks.{mostDestinations, destinationsCheck, chosenCheck, chosenMode, modeCheck, tableLengthCheck, lawCCheck, mappingCheck, solvesCheck}
+use Rattle.table_guards.specs.Checks.{mostDestinations, destinationsCheck, chosenCheck, chosenMode, modeCheck, tableLengthCheck, lawCCheck, mappingCheck, solvesCheck}
 use Rattle.forwarding.specs.Calls.{modeMeant, forwardChecks, forwardCheck}
-use Rattle.forwarding.proofs.Order.{destinations-passed, table-length-passed}
+use Rattle.table_guards.proofs.TableSingles.{destinations-passed, table-length-passed}
 use Rattle.forwarded.specs.Table.{EveryRouteBest}
 use Rattle.forwarded.specs.Exact.{ModeFits, TableLong, beforeLaws, beforeLawC, beforeEquation, ForwardRefusals}
 

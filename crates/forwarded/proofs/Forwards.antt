@@ -46,9 +46,10 @@ use Rattle.modes.proofs.SemiModules.{language-forwards, language-forwarded-best
 use Rattle.tables.proofs.TableBlocks.{table-five}
 use Rattle.routes.specs.Calls.{matrixOf}
 use Rattle.routes.proofs.Bridge.{check-pad, entry-valid, entry-padded}
-use Rattle.routes.proofs.Order.{nodes-passed}
+use Rattle.guards.proofs.Singles.{nodes-passed}
 use Rattle.forwarding.specs.Calls.{tableOf, modeMeant, buffersChecks, argumentsChecks, forwardCheck, forwardingSum, forwardLeftBy, forwardLeft}
-use Rattle.forwarding.proofs.Order.{destinations-passed, BuffersFormed, Ready, buffers-passed}
+use Rattle.forwarding.proofs.Order.{BuffersFormed, Ready, buffers-passed}
+use Rattle.table_guards.proofs.TableSingles.{destinations-passed}
 use Rattle.forwarding.proofs.Answers.{forward-order}
 use Rattle.forwarded.specs.Table.{left, EveryRouteBest, TableSays}
 use Rattle.forwarded.proofs.ReadBack.{entry-back, entry-sum}

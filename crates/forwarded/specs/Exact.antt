@@ -19,10 +19,10 @@ use Rattle.weights.specs.Laws.{LawD, LawU, LawC}
 use Rattle.weights.specs.Languages.{componentsOf, countCheck, limitCheck, CountInRange, FirstNot}
 use Rattle.matrices.specs.Buffers.{AtFirst}
 use Rattle.tables.specs.Tables.{AtFirstEntry}
-use Rattle.routes.specs.Checks.{nodesCheck, lengthCheck, lawDCheck, lawUCheck, arcsCheck, routesCheck}
+use Rattle.guards.specs.Checks.{nodesCheck, lengthCheck, lawDCheck, lawUCheck, arcsCheck, routesCheck}
 use Rattle.routes.specs.Calls.{matrixOf}
 use Rattle.routes.specs.Exact.{NodesInRange, MatrixLong}
-use Rattle.forwarding.specs.Checks.{mostDestinations, destinationsCheck, modeCheck, tableLengthCheck, lawCCheck, mappingCheck, solvesCheck}
+use Rattle.table_guards.specs.Checks.{mostDestinations, destinationsCheck, modeCheck, tableLengthCheck, lawCCheck, mappingCheck, solvesCheck}
 use Rattle.forwarding.specs.Calls.{modeMeant}
 
 -- ---- words of the cases

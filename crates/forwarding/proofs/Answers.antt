@@ -25,11 +25,11 @@ use Rattle.modes.specs.declared.Mode.{Mode}
 use Rattle.modes.specs.Entries.{modeOf, needsC}
 use Rattle.tables.specs.Tables.{tableWords, tableIn}
 use Rattle.tables.proofs.PaddedTables.{table-check-pad, forward-words}
-use Rattle.routes.specs.Checks.{nodesCheck, arcsCheck, routesCheck}
+use Rattle.guards.specs.Checks.{nodesCheck, arcsCheck, routesCheck}
 use Rattle.routes.specs.Calls.{matrixOf}
 use Rattle.routes.proofs.Bridge.{check-pad, buffer-goes, solves-go}
 use Rattle.routes.proofs.Order.{stops, goes-on}
-use Rattle.forwarding.specs.Checks.{destinationsCheck, modeCheck, chosenMode, mappingCheck, solvesCheck}
+use Rattle.table_guards.specs.Checks.{destinationsCheck, modeCheck, chosenMode, mappingCheck, solvesCheck}
 use Rattle.forwarding.specs.Calls.{modeMeant, buffersChecks, argumentsChecks, forwardCheck, forwardLeftBy, forwardLeft}
 use Rattle.forwarding.specs.Ready.{InPlaces, Means}
 use Rattle.forwarding.proofs.Order.{group, Lengths, Laws, Entries, buffers-order, Long, lengths-passed, BuffersFormed, entries-passed, buffers-passed}

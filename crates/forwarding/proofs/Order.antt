@@ -1,14 +1,12 @@
 -- The checks of forwarding, group by group: what one after another gives, and what is known once all have passed.
-use Prim.Native.Nat.{ℕ, _*_, _≤_, _<_}
+use Prim.Native.Nat.{ℕ, _≤_}
 use mathlib.Core.Path.{_≡_, refl, sym, ap, subst, _∙_}
-use mathlib.Core.Bool.{Bool, true, false, not, _||_}
+use mathlib.Core.Bool.{Bool, true}
 use mathlib.Core.List.{List, [], _∷_, _++_}
 use native.Mathlib.Omega.{arith}
-use lib.Dec.{leb, eqb}
 use lib.ListN.{length}
-use borrow.Author.Tests.{leb-true, lt-leb, le-leb, eqb-true, eq-eqb, ne-eqb}
 use Rattle.refusals.specs.declared.Refusal.{Refusal}
-use Rattle.refusals.specs.declared.Refusal.the-variants.{Size, Length, Law, Equation}
+use Rattle.refusals.specs.declared.Refusal.the-variants.{Size, Law, Equation}
 use Rattle.refusals.specs.declared.Check.{Check}
 use Rattle.refusals.specs.declared.Check.the-variants.{Passed, Refused}
 use Rattle.refusals.specs.Checks.{unless, orElse, firstOf}
@@ -16,7 +14,7 @@ use Rattle.refusals.proofs.First.{unless-passes, both-pass}
 use Rattle.weights.specs.declared.Component.{Component}
 use Rattle.weights.specs.declared.Language.{Language}
 use Rattle.weights.specs.declared.Places.{Places}
-use Rattle.weights.specs.Sizes.{places, entryWords, arcSum, matrixSum}
+use Rattle.weights.specs.Sizes.{places, arcSum, matrixSum}
 use Rattle.weights.specs.Weights.{Sound}
 use Rattle.weights.specs.Laws.{testD, testU, testC}
 use Rattle.weights.specs.Languages.{componentsOf, languageCheck, padded, placesOf, SmallLimits}
@@ -31,11 +29,13 @@ use Rattle.modes.specs.Entries.{modeFor, needsC}
 use Rattle.tables.specs.Tables.{Sized, FormedTable}
 use Rattle.tables.specs.Parts.{GivenTable}
 use Rattle.tables.proofs.MalformedEntries as entries
-use Rattle.routes.specs.Checks.{nodesCheck, lengthCheck, lawDCheck, lawUCheck, arcsCheck, routesCheck}
-use Rattle.routes.proofs.Order.{stops, goes-on, last, nodes-passed, length-passed}
-use Rattle.forwarding.specs.Checks.{mostDestinations, destinationsCheck, chosenCheck, tableLengthCheck, lawCCheck, mappingCheck, solvesCheck}
+use Rattle.guards.specs.Checks.{nodesCheck, lengthCheck, lawDCheck, lawUCheck, arcsCheck, routesCheck}
+use Rattle.routes.proofs.Order.{stops, goes-on, last}
+use Rattle.guards.proofs.Singles.{nodes-passed, length-passed}
+use Rattle.table_guards.specs.Checks.{destinationsCheck, chosenCheck, tableLengthCheck, lawCCheck, mappingCheck, solvesCheck}
 use Rattle.forwarding.specs.Calls.{buffersChecks, argumentsChecks}
 use Rattle.forwarding.specs.Ready.{InPlaces, Means}
+use Rattle.table_guards.proofs.TableSingles.{destinations-passed, table-length-passed, law-C-passed}
 
 -- ---- groups of checks
 
@@ -44,46 +44,6 @@ pub group : (cs ds : List Check) → firstOf (cs ++ ds) ≡ orElse (firstOf cs) 
 group [] ds = refl
 group (Passed ∷ cs) ds = group cs ds
 group (Refused x ∷ cs) ds = refl
-
--- ---- single checks
-
-pub destinations-high : (m : ℕ) → mostDestinations < m → Refused (Size 2 0) ≡ destinationsCheck m
-destinations-high m h = rw (lt-leb m mostDestinations h)
-
-pub destinations-in : (m : ℕ) → m ≤ mostDestinations → Passed ≡ destinationsCheck m
-destinations-in m h = rw (le-leb m mostDestinations h)
-
-pub destinations-passed : (m : ℕ) → destinationsCheck m ≡ Passed → m ≤ 32
-destinations-passed m e = leb-true m 32 (unless-passes (leb m 32) (Size 2 0) e)
-
-pub length-other : (which n m : ℕ) (s : List ℕ) → (length s ≡ n * (m * entryWords) → ⊥) → Refused (Length which 0) ≡ tableLengthCheck which n m s
-length-other which n m s f = rw (ne-eqb (length s) (n * (m * entryWords)) f)
-
-pub length-same : (which n m : ℕ) (s : List ℕ) → length s ≡ n * (m * entryWords) → Passed ≡ tableLengthCheck which n m s
-length-same which n m s e = rw (eq-eqb (length s) (n * (m * entryWords)) e)
-
-pub table-length-passed : (which n m : ℕ) (s : List ℕ) → n ≤ 16 → m ≤ 32 → tableLengthCheck which n m s ≡ Passed → Sized n m s
-table-length-passed which n m s h k e = record {
-  few-nodes = h;
-  few-destinations = k;
-  long = eqb-true (length s) (n * (m * entryWords)) (unless-passes (eqb (length s) (n * (m * entryWords))) (Length which 0) e);
-}
-
-pub law-C-free : (mode : Mode) (cs : List Component) → needsC mode ≡ false → Passed ≡ lawCCheck mode cs
-law-C-free mode cs e = rw e
-
-pub law-C-tested : (mode : Mode) (cs : List Component) (b : Bool) → needsC mode ≡ true → testC cs ≡ b → unless b (Law 3 0) ≡ lawCCheck mode cs
-law-C-tested mode cs b e f = rw (e, f)
-
-pub law-C-passed : (mode : Mode) (cs : List Component) → lawCCheck mode cs ≡ Passed → needsC mode ≡ true → testC cs ≡ true
-law-C-passed mode cs e h = go (needsC mode) h (unless-passes (not (needsC mode) || testC cs) (Law 3 0) e)
-  where
-    go : (b : Bool) → b ≡ true → (not b || testC cs) ≡ true → testC cs ≡ true
-    go true p q = q
-    go false p q = absurd (apart p)
-      where
-        apart : false ≡ true → ⊥
-        apart z = let y : _≡_ {A = ℕ} 0 1 = cc in omega arith
 
 -- C after D and U
 pub two-laws-refuse : (mode : Mode) (cs : List Component) {x : Refusal} → firstOf (lawDCheck cs ∷ lawUCheck cs ∷ []) ≡ Refused x → Refused x ≡ firstOf (lawDCheck cs ∷ lawUCheck cs ∷ lawCCheck mode cs ∷ [])

@@ -16,9 +16,9 @@ use Rattle.weights.specs.Languages.{componentsOf, countCheck, limitCheck}
 use Rattle.modes.specs.declared.Mode.{Mode}
 use Rattle.modes.specs.Entries.{Entry, modeFor, modeOf}
 use Rattle.tables.specs.Tables.{tableWords, tableIn}
-use Rattle.routes.specs.Checks.{nodesCheck, lengthCheck, lawDCheck, lawUCheck, arcsCheck, routesCheck}
+use Rattle.guards.specs.Checks.{nodesCheck, lengthCheck, lawDCheck, lawUCheck, arcsCheck, routesCheck}
 use Rattle.routes.specs.Calls.{matrixOf}
-use Rattle.forwarding.specs.Checks.{destinationsCheck, modeCheck, chosenMode, tableLengthCheck, lawCCheck, mappingCheck, solvesCheck}
+use Rattle.table_guards.specs.Checks.{destinationsCheck, modeCheck, chosenMode, tableLengthCheck, lawCCheck, mappingCheck, solvesCheck}
 
 -- the table of m destinations that a buffer holds, in the language
 abbrev pub tableOf : Language → ℕ → List ℕ → ℕ → ℕ → Entry

@@ -1,3 +1,2 @@
-pub mod Checks
 pub mod Calls
 pub mod Ready

@@ -1,13 +1,11 @@
 // The checks of forwarding in 01's order: 3, 5, 4 on the arguments, then 9, 10, 6, 12 on the buffers.
 use super::Arguments;
-use super::MOST_DESTINATIONS;
 use modes::Chosen;
 use modes::Mode;
 use refusals::Check;
 use refusals::Refusal;
 use weights::ARC_SUM;
 use weights::Checked;
-use weights::ENTRY_WORDS;
 use weights::Language;
 use weights::MATRIX_SUM;
 use weights::Places;
@@ -19,28 +17,18 @@ ghost use Rattle.weights.specs.Languages.{placesOf};
 ghost use Rattle.matrices.specs.Buffers.{Square};
 ghost use Rattle.matrices.specs.Steps.{Given};
 ghost use Rattle.tables.specs.Tables.{Sized};
-ghost use Rattle.routes.specs.Checks.{lengthCheck, lawDCheck, lawUCheck, arcsCheck, routesCheck};
-ghost use Rattle.forwarding.specs.Checks.{destinationsCheck, tableLengthCheck, lawCCheck, mappingCheck, solvesCheck};
+ghost use Rattle.guards.specs.Checks.{lengthCheck, lawDCheck, lawUCheck, arcsCheck, routesCheck};
+ghost use Rattle.table_guards.specs.Checks.{tableLengthCheck, lawCCheck, mappingCheck, solvesCheck};
 ghost use Rattle.forwarding.specs.Calls.{buffersChecks};
 ghost use Rattle.forwarding.specs.Ready.{ArgumentsSay, InPlaces};
-
-// 3: the number of destinations.
-fn check_destinations(m: u32) -> Check
-    ensures { λ c. ⌜ c ≡ destinationsCheck m ⌝ }
-{
-    if MOST_DESTINATIONS < m {
-        return Check::Refused(Refusal::Size { which: 2, place: 0 });
-    }
-    Check::Passed
-}
 
 // 3 on n, m and the mode, then 5 and 4 on the language.
 pub fn check_arguments(l: Language, n: u32, m: u32, number: u32) -> Arguments
     ensures { λ c. ⌜ ArgumentsSay l n m number c ⌝ }
 {
-    match routes::checks::check_nodes(n) {
+    match guards::check_nodes(n) {
         Check::Refused(x) => Arguments::Refused(x),
-        Check::Passed => match check_destinations(m) {
+        Check::Passed => match table_guards::check_destinations(m) {
             Check::Refused(x) => Arguments::Refused(x),
             Check::Passed => match modes::choosing::mode_for(l, m as usize, number) {
                 Chosen::Unfit => Arguments::Refused(Refusal::Size { which: 3, place: 0 }),
@@ -53,55 +41,30 @@ pub fn check_arguments(l: Language, n: u32, m: u32, number: u32) -> Arguments
     }
 }
 
-// 9: the words of a table.
-fn check_table_length(which: u32, n: usize, m: usize, s: &[u32]) -> Check
-    requires { ⌜ (n ≤ 16) × (m ≤ 32) ⌝ }
-    ensures { λ c. ⌜ c ≡ tableLengthCheck which n m (now (s .entry)) ⌝ }
-{
-    let words = n * (m * ENTRY_WORDS);
-    if s.len() != words {
-        return Check::Refused(Refusal::Length { which, place: 0 });
-    }
-    Check::Passed
-}
-
 // 9 on A, R, M and F.
 fn check_lengths(n: usize, m: usize, a: &[u32], r: &[u32], mapping: &[u32], f: &[u32]) -> Check
     requires { ⌜ (n ≤ 16) × (m ≤ 32) ⌝ }
     ensures { λ c. ⌜ c ≡ firstOf (lengthCheck 1 n (now (a .entry)) ∷ lengthCheck 2 n (now (r .entry)) ∷ tableLengthCheck 3 n m (now (mapping .entry)) ∷ tableLengthCheck 4 n m (now (f .entry)) ∷ []) ⌝ }
 {
-    match routes::checks::check_length(1, n, a) {
+    match guards::check_length(1, n, a) {
         Check::Refused(x) => Check::Refused(x),
-        Check::Passed => match routes::checks::check_length(2, n, r) {
+        Check::Passed => match guards::check_length(2, n, r) {
             Check::Refused(x) => Check::Refused(x),
-            Check::Passed => match check_table_length(3, n, m, mapping) {
+            Check::Passed => match table_guards::check_table_length(3, n, m, mapping) {
                 Check::Refused(x) => Check::Refused(x),
-                Check::Passed => check_table_length(4, n, m, f),
+                Check::Passed => table_guards::check_table_length(4, n, m, f),
             },
         },
     }
-}
-
-// 10: law C, where the mode needs it.
-fn check_law_c(p: Places, mode: Mode) -> Check
-    ensures { λ c. ⌜ c ≡ lawCCheck mode (placesOf p) ⌝ }
-{
-    if !modes::choosing::needs_c(mode) {
-        return Check::Passed;
-    }
-    if !laws::has_c(p) {
-        return Check::Refused(Refusal::Law { which: 3, place: 0 });
-    }
-    Check::Passed
 }
 
 // 10: law D, then U, then C.
 fn check_laws(p: Places, mode: Mode) -> Check
     ensures { λ c. ⌜ c ≡ firstOf (lawDCheck (placesOf p) ∷ lawUCheck (placesOf p) ∷ lawCCheck mode (placesOf p) ∷ []) ⌝ }
 {
-    match routes::checks::check_laws(p) {
+    match guards::check_laws(p) {
         Check::Refused(x) => Check::Refused(x),
-        Check::Passed => check_law_c(p, mode),
+        Check::Passed => table_guards::check_law_c(p, mode),
     }
 }
 

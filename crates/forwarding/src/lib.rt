@@ -6,8 +6,6 @@ use modes::Mode;
 use refusals::Refusal;
 use weights::Places;
 
-pub const MOST_DESTINATIONS: u32 = 32;
-
 // What the checks of the sizes and the language find: the language in its places and the mode, or a refusal.
 pub enum Arguments {
     Given { places: Places, mode: Mode },

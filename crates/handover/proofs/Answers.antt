@@ -25,7 +25,8 @@ use Rattle.weights.proofs.Checking.{few}
 use Rattle.matrices.specs.Buffers.{matrixWords, matrixIn, Square}
 use Rattle.routes.specs.Calls.{matrixOf}
 use Rattle.routes.proofs.Bridge.{buffer-goes, embedded, words-go}
-use Rattle.routes.proofs.Order.{nodes-passed, length-passed, node-passed, passing-sound}
+use Rattle.routes.proofs.Order.{passing-sound}
+use Rattle.guards.proofs.Singles.{nodes-passed, length-passed, node-passed}
 use Rattle.handover.specs.declared.LenderAnswer.the-variants.{Newer, Standing, Refused as LenderRefused}
 use Rattle.handover.specs.Calls.{handoverChecks, handoverCheck, bestWords, isBest, LenderRow, lenderRowBy, lenderRow, lenderSaid, rowPart, lentRowBy, lentRow, rowStart, lentStartBy, lentStart}
 use Rattle.handover.specs.Parts.{HandoverChecked}

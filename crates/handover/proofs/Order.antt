@@ -13,8 +13,9 @@ use Rattle.weights.specs.Sizes.{places, arcSum}
 use Rattle.weights.specs.Languages.{componentsOf, countCheck, limitCheck, languageCheck, padded, placesOf, SmallLimits}
 use Rattle.matrices.specs.Buffers.{Square}
 use Rattle.matrices.proofs.Malformed.{check-formed}
-use Rattle.routes.specs.Checks.{nodesCheck, lengthCheck, lawDCheck, lawUCheck, arcsCheck, nodeCheck}
-use Rattle.routes.proofs.Order.{stops, goes-on, pair, passed-both, nodes-passed, length-passed, node-passed, laws-same, arcs-same, passing}
+use Rattle.guards.specs.Checks.{nodesCheck, lengthCheck, lawDCheck, lawUCheck, arcsCheck, nodeCheck}
+use Rattle.routes.proofs.Order.{stops, goes-on, pair, passed-both, laws-same, arcs-same, passing}
+use Rattle.guards.proofs.Singles.{nodes-passed, length-passed, node-passed}
 use Rattle.handover.specs.Calls.{handoverCheck}
 use Rattle.handover.specs.Parts.{HandoverChecked}
 

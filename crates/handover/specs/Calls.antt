@@ -17,7 +17,7 @@ use Rattle.weights.specs.Weights.{language}
 use Rattle.weights.specs.Languages.{componentsOf, countCheck, limitCheck}
 use Rattle.weights.specs.Values.{sameValues}
 use Rattle.matrices.specs.Buffers.{matrixWords}
-use Rattle.routes.specs.Checks.{nodesCheck, lengthCheck, lawDCheck, lawUCheck, arcsCheck, nodeCheck}
+use Rattle.guards.specs.Checks.{nodesCheck, lengthCheck, lawDCheck, lawUCheck, arcsCheck, nodeCheck}
 use Rattle.routes.specs.Calls.{matrixOf}
 use Rattle.handover.specs.declared.LenderAnswer.{LenderAnswer}
 use Rattle.handover.specs.declared.LenderAnswer.the-variants.{Newer, Standing, Refused as LenderRefused}

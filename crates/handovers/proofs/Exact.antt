@@ -19,7 +19,7 @@ use Rattle.weights.specs.Languages.{componentsOf}
 use Rattle.weights.proofs.Checking.{limits-exact}
 use Rattle.weights.proofs.Cases.{count-case, limit-case}
 use Rattle.matrices.proofs.Malformed.{check-refuses}
-use Rattle.routes.proofs.Order.{nodes-passed, length-passed}
+use Rattle.guards.proofs.Singles.{nodes-passed, length-passed}
 use Rattle.routes.proofs.OneTeller.{Teller, checksOf, given-where}
 use Rattle.routes.proofs.Cases.{done-exactly, alone, nodes-case, length-case, law-D-missing, law-U-missing, law-U-after, node-case, nodesTeller, countTeller, limitTeller, lengthTeller, lawDTeller, lawUTeller, matrixTeller, nodeTeller}
 use Rattle.handover.specs.Calls.{isBest, handoverCheck, lenderRowBy, lenderRow}

@@ -20,9 +20,9 @@ use Rattle.weights.specs.Languages.{componentsOf, countCheck, limitCheck, Small
 use Rattle.weights.proofs.Checking.{few}
 use Rattle.matrices.specs.Buffers.{Square, Formed}
 use Rattle.matrices.proofs.Blocks.{block-room}
-use Rattle.routes.specs.Checks.{nodesCheck, lengthCheck, lawDCheck, lawUCheck}
+use Rattle.guards.specs.Checks.{nodesCheck, lengthCheck, lawDCheck, lawUCheck}
 use Rattle.routes.specs.Calls.{stepOf, stepsRow, stepsLeft}
-use Rattle.routes.proofs.Order.{length-same, node-in}
+use Rattle.guards.proofs.Singles.{length-same, node-in}
 use Rattle.refusals.proofs.Exactly.{told-check}
 use Rattle.histories.specs.History.{HistoryBegun, held, ran, BestColumn}
 use Rattle.histories.proofs.Reached.{reached-formed}

@@ -28,9 +28,9 @@ use Rattle.weights.proofs.Checking.{few}
 use Rattle.matrices.specs.Buffers.{matrixWords}
 use Rattle.matrices.specs.Steps.{Matrix}
 use Rattle.matrices.proofs.Entries.{matrix-cong, length-matrix}
-use Rattle.routes.specs.Checks.{firstSettle, manyCheck, listCheck}
+use Rattle.guards.specs.Checks.{firstSettle, manyCheck, listCheck}
 use Rattle.routes.specs.Calls.{matrixOf, stepOf, stepFits, runOf, doneOf, matricesChecks, stepsCheck, stepsRowBy, stepsRow, stepsLeftBy, stepsLeft}
-use Rattle.routes.proofs.Order.{nodes-passed}
+use Rattle.guards.proofs.Singles.{nodes-passed}
 use Rattle.histories.specs.History.{BestColumn}
 use Rattle.histories.proofs.Reached.{network}
 use Rattle.handover.specs.Calls.{bestWords, isBest}

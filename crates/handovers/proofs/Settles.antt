@@ -23,10 +23,11 @@ use Rattle.weights.specs.Sizes.{weightWords}
 use Rattle.weights.specs.Weights.{language}
 use Rattle.weights.specs.Languages.{componentsOf, SmallLimits}
 use Rattle.matrices.specs.Steps.{Matrix}
-use Rattle.routes.specs.Checks.{firstSettle, mostSteps, isStep, manyCheck, listCheck}
+use Rattle.guards.specs.Checks.{firstSettle, mostSteps, isStep, manyCheck, listCheck}
 use Rattle.routes.specs.Calls.{matrixOf, stepOf, doneOf, matricesChecks, stepsCheck, StepsRow, rowAfterRun, stepsRowBy, stepsRow, stepsLeft}
 use Rattle.routes.specs.Ready.{AllSteps}
-use Rattle.routes.proofs.Order.{goes-on, matrices-rest, nodes-passed}
+use Rattle.routes.proofs.Order.{goes-on, matrices-rest}
+use Rattle.guards.proofs.Singles.{nodes-passed}
 use Rattle.routes.proofs.Lists.{step-settle, passed-list}
 use Rattle.handover.specs.Calls.{bestWords, rowPart, lentRow}
 use Rattle.handovers.specs.Handovers.{SettlesOnly, settles, SettlesAll}

@@ -18,7 +18,7 @@ use Rattle.weights.specs.Weights.{language}
 use Rattle.weights.specs.Languages.{componentsOf, SmallLimits}
 use Rattle.matrices.specs.Buffers.{matrixWords}
 use Rattle.matrices.specs.Steps.{Matrix}
-use Rattle.routes.specs.Checks.{firstSettle, manyCheck, listCheck}
+use Rattle.guards.specs.Checks.{firstSettle, manyCheck, listCheck}
 use Rattle.routes.specs.Calls.{matrixOf, stepOf, stepFits, runOf, stepsCheck, stepsRow, stepsLeftBy, stepsLeft}
 use Rattle.histories.specs.History.{afterCalls, BestColumn}
 use Rattle.histories.proofs.Reached.{network}

@@ -29,7 +29,7 @@ use Rattle.matrices.specs.Steps.{Matrix}
 use Rattle.matrices.proofs.Entries.{matrix-cong, matrix-four}
 use Rattle.matrices.proofs.Malformed.{check-formed}
 use Rattle.routes.specs.Calls.{matrixOf, matricesChecks}
-use Rattle.routes.proofs.Order.{nodes-passed, length-passed}
+use Rattle.guards.proofs.Singles.{nodes-passed, length-passed}
 use Rattle.histories.proofs.Reached.{network, reached-formed, reached-reads}
 use Rattle.histories.proofs.Standing.{words-self}
 use Rattle.handover.specs.Calls.{bestWords, isBest}

@@ -15,7 +15,7 @@ use Rattle.weights.specs.Weights.{SoundLimit}
 use Rattle.weights.specs.Laws.{LawD, LawU}
 use Rattle.weights.specs.Languages.{componentsOf, countCheck, CountInRange, FirstNot}
 use Rattle.matrices.specs.Buffers.{AtFirst}
-use Rattle.routes.specs.Checks.{nodesCheck, lengthCheck, lawDCheck, lawUCheck, arcsCheck, nodeCheck}
+use Rattle.guards.specs.Checks.{nodesCheck, lengthCheck, lawDCheck, lawUCheck, arcsCheck, nodeCheck}
 use Rattle.routes.specs.Exact.{NodesInRange, MatrixLong, nodesAndLanguage, sizes}
 
 -- 3, 5, 4, 9 on A, the new matrix and the standing one

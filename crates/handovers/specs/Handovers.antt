@@ -13,7 +13,7 @@ use Rattle.weights.specs.Sizes.{matrixSum}
 use Rattle.weights.specs.Weights.{language}
 use Rattle.weights.specs.Languages.{componentsOf, countCheck, limitCheck, SmallLimits}
 use Rattle.matrices.specs.Buffers.{Formed}
-use Rattle.routes.specs.Checks.{firstSettle, nodesCheck, lengthCheck, lawDCheck, lawUCheck, arcsCheck}
+use Rattle.guards.specs.Checks.{firstSettle, nodesCheck, lengthCheck, lawDCheck, lawUCheck, arcsCheck}
 use Rattle.routes.specs.Calls.{matrixOf}
 use Rattle.handover.specs.Calls.{handoverCheck, rowPart, lentRow}
 

@@ -24,7 +24,7 @@ use Rattle.weights.proofs.Checking.{limits-exact}
 use Rattle.weights.proofs.Cases.{count-case, limit-case}
 use Rattle.matrices.specs.Buffers.{AtFirst}
 use Rattle.matrices.specs.Steps.{solves}
-use Rattle.routes.specs.Checks.{mostSteps, manyCheck}
+use Rattle.guards.specs.Checks.{mostSteps, manyCheck}
 use Rattle.routes.specs.Calls.{matrixOf, freshCheck, matricesChecks, stepOf, stepsCheck, stepsRow, equationCheck, equationRowBy, equationRow}
 use Rattle.routes.specs.Exact.{IsStep, sizes, sizesAndLaws, sizesLawsAndArcs, sizesLawsAndEntries, MatricesRefusals}
 use Rattle.routes.proofs.OneTeller.{Teller, checksOf, none-gives, given-where}

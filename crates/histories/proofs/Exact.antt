@@ -24,7 +24,7 @@ use Rattle.weights.specs.declared.Language.{Language}
 use Rattle.weights.specs.Weights.{language}
 use Rattle.weights.specs.Languages.{componentsOf, countCheck, limitCheck}
 use Rattle.matrices.specs.Steps.{Matrix, solves}
-use Rattle.routes.specs.Checks.{nodesCheck, lengthCheck, lawDCheck, lawUCheck, manyCheck, listCheck}
+use Rattle.guards.specs.Checks.{nodesCheck, lengthCheck, lawDCheck, lawUCheck, manyCheck, listCheck}
 use Rattle.histories.specs.Exact.{StepOver, StopsAt, StepsOverflow}
 use Rattle.histories.proofs.Reached.{length-steps}
 use Rattle.histories.proofs.Over.{step-over, step-fits}

@@ -33,11 +33,12 @@ use Rattle.matrices.specs.Buffers.{matrixWords, Formed}
 use Rattle.matrices.specs.Steps.{Matrix}
 use Rattle.matrices.proofs.Entries.{matrix-cong, length-matrix}
 use Rattle.matrices.proofs.Malformed.{check-formed, formed-check}
-use Rattle.routes.specs.Checks.{firstSettle, mostSteps, nodesCheck, lengthCheck, lawDCheck, lawUCheck, manyCheck, listCheck}
+use Rattle.guards.specs.Checks.{firstSettle, mostSteps, nodesCheck, lengthCheck, lawDCheck, lawUCheck, manyCheck, listCheck}
 use Rattle.routes.specs.Calls.{matrixOf, freshLeftBy, freshLeft, stepOf, runOf, doneOf, matricesChecks, stepsCheck, StepsRow, rowAfterRun, stepsRowBy, stepsRow, stepsLeftBy, stepsLeft}
 use Rattle.routes.specs.Ready.{AllSteps}
 use Rattle.histories.specs.History.{addedBy, afterCalls, soFar, HistoryBegun, held, ran, HistoryDemand3}
-use Rattle.routes.proofs.Order.{goes-on, matrices-rest, nodes-passed, length-same, length-passed}
+use Rattle.routes.proofs.Order.{goes-on, matrices-rest}
+use Rattle.guards.proofs.Singles.{nodes-passed, length-same, length-passed}
 use Rattle.routes.proofs.Lists.{all-in, list-passed, passed-list, all-front, all-back}
 use Rattle.histories.proofs.Reached.{length-steps, network, reached-formed, reached-reads, runs-on}
 use Rattle.refusals.specs.declared.Refusal.the-variants.{Law}

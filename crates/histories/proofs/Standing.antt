@@ -27,10 +27,10 @@ use Rattle.matrices.specs.Steps.{Matrix}
 use Rattle.matrices.proofs.Blocks.{blocks-cong}
 use Rattle.matrices.proofs.Entries.{matrix-self}
 use Rattle.matrices.proofs.Malformed.{check-formed}
-use Rattle.routes.specs.Checks.{mostSteps, manyCheck, listCheck}
+use Rattle.guards.specs.Checks.{mostSteps, manyCheck, listCheck}
 use Rattle.routes.specs.Calls.{matrixOf, matricesChecks, stepOf, runOf, doneOf, stepsCheck, rowAfterRun, stepsRowBy, stepsRow, stepsLeftBy, stepsLeft}
 use Rattle.routes.specs.Ready.{AllSteps}
-use Rattle.routes.proofs.Order.{nodes-passed, length-passed}
+use Rattle.guards.proofs.Singles.{nodes-passed, length-passed}
 use Rattle.routes.proofs.Lists.{list-passed, passed-list, all-front}
 use Rattle.routes.proofs.Bridge.{entry-padded}
 use Rattle.histories.specs.Exact.{StopsAt}

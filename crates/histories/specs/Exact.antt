@@ -22,7 +22,7 @@ use Rattle.weights.specs.Weights.{Weight, none, route, SoundLimit, language}
 use Rattle.weights.specs.Laws.{LawD, LawU}
 use Rattle.weights.specs.Languages.{componentsOf, countCheck, limitCheck, CountInRange, FirstNot}
 use Rattle.matrices.specs.Steps.{Matrix}
-use Rattle.routes.specs.Checks.{mostSteps, nodesCheck, lengthCheck, lawDCheck, lawUCheck, manyCheck, listCheck}
+use Rattle.guards.specs.Checks.{mostSteps, nodesCheck, lengthCheck, lawDCheck, lawUCheck, manyCheck, listCheck}
 use Rattle.routes.specs.Calls.{matrixOf, stepOf, stepsCheck}
 use Rattle.routes.specs.Exact.{NodesInRange, MatrixLong, IsStep, nodesAndLanguage, sizesLawsAndEntries, MatricesRefusals}
 

@@ -16,7 +16,7 @@ use Rattle.weights.specs.declared.Language.{Language}
 use Rattle.weights.specs.Weights.{better, language}
 use Rattle.weights.specs.Languages.{componentsOf, SmallLimits}
 use Rattle.matrices.specs.Buffers.{matrixWords}
-use Rattle.routes.specs.Checks.{firstSettle, lengthCheck, arcsCheck, manyCheck, listCheck}
+use Rattle.guards.specs.Checks.{firstSettle, lengthCheck, arcsCheck, manyCheck, listCheck}
 use Rattle.routes.specs.Calls.{matrixOf, freshCheck, freshLeft, stepOf, stepsCheck, stepsRow, stepsLeft}
 
 -- a done call adds its list, a refused one nothing

@@ -23,11 +23,12 @@ use Rattle.weights.proofs.Padding.{padWeight}
 use Rattle.weights.proofs.Checking.{few}
 use Rattle.matrices.specs.Buffers.{matrixIn}
 use Rattle.matrices.specs.Steps.{Matrix, Given}
-use Rattle.routes.specs.Checks.{nodeCheck}
+use Rattle.guards.specs.Checks.{nodeCheck}
 use Rattle.routes.specs.Calls.{matrixOf, matricesChecks}
 use Rattle.routes.specs.Ready.{Passing}
 use Rattle.routes.proofs.Bridge.{buffer-goes, embedded, same-padded}
-use Rattle.routes.proofs.Order.{stops, goes-on, passed-both, node-passed, matrices-rest, passing-sound}
+use Rattle.routes.proofs.Order.{stops, goes-on, passed-both, matrices-rest, passing-sound}
+use Rattle.guards.proofs.Singles.{node-passed}
 use Rattle.hops.specs.declared.HopFound.{HopFound}
 use Rattle.hops.specs.declared.HopAnswer.the-variants.{Refused as HopRefused}
 use Rattle.hops.specs.NextHop.{isHop, lowestFrom, hopOf, foundAt}

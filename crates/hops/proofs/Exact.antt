@@ -15,7 +15,7 @@ use Rattle.refusals.specs.Checks.{checkTold, Gives}
 use Rattle.refusals.proofs.First.{first-exactly}
 use Rattle.weights.specs.declared.Language.{Language}
 use Rattle.weights.specs.Languages.{componentsOf}
-use Rattle.routes.specs.Checks.{nodeCheck}
+use Rattle.guards.specs.Checks.{nodeCheck}
 use Rattle.routes.specs.Calls.{matrixOf, matricesChecks}
 use Rattle.refusals.proofs.Exactly.{told-check}
 use Rattle.routes.proofs.OneTeller.{Teller, given-where}

@@ -10,7 +10,7 @@ use Rattle.refusals.specs.Told.{told, done}
 use Rattle.refusals.specs.Checks.{firstOf}
 use Rattle.weights.specs.declared.Language.{Language}
 use Rattle.weights.specs.Languages.{componentsOf}
-use Rattle.routes.specs.Checks.{nodeCheck}
+use Rattle.guards.specs.Checks.{nodeCheck}
 use Rattle.routes.specs.Calls.{matrixOf, matricesChecks}
 use Rattle.hops.specs.declared.HopAnswer.{HopAnswer}
 use Rattle.hops.specs.declared.HopAnswer.the-variants.{Hop, NoHop, Refused as HopRefused}

@@ -10,7 +10,7 @@ use Rattle.refusals.specs.declared.Told.{Told}
 use Rattle.refusals.specs.Told.{told, done}
 use Rattle.refusals.specs.Checks.{Pass}
 use Rattle.weights.specs.declared.Language.{Language}
-use Rattle.routes.specs.Checks.{nodeCheck}
+use Rattle.guards.specs.Checks.{nodeCheck}
 use Rattle.routes.specs.Exact.{sizesLawsAndEntries, MatricesRefusals}
 
 -- The call gives this answer: each of its refusals exactly in its case, and done exactly where every check passes.

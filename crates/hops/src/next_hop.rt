@@ -10,16 +10,16 @@ use weights::Language;
 ghost use mathlib.Core.Path.{_≡_};
 ghost use mathlib.Core.List.{[], _∷_};
 ghost use Rattle.refusals.specs.Checks.{firstOf};
-ghost use Rattle.routes.specs.Checks.{nodeCheck};
+ghost use Rattle.guards.specs.Checks.{nodeCheck};
 ghost use Rattle.hops.specs.Calls.{hopRow, hopSaid};
 
 // 7 for i, then for j.
 fn check_pair(n: u32, i: u32, j: u32) -> Check
     ensures { λ c. ⌜ c ≡ firstOf (nodeCheck 0 n i ∷ nodeCheck 1 n j ∷ []) ⌝ }
 {
-    match checks::check_node(0, n, i) {
+    match guards::check_node(0, n, i) {
         Check::Refused(x) => Check::Refused(x),
-        Check::Passed => checks::check_node(1, n, j),
+        Check::Passed => guards::check_node(1, n, j),
     }
 }
 

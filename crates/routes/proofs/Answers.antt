@@ -22,7 +22,7 @@ use Rattle.matrices.specs.Buffers.{matrixWords, matrixIn}
 use Rattle.matrices.specs.Steps.{Matrix, solves, Given}
 use Rattle.routes.specs.declared.StepsAnswer.the-variants.{Done, Refused as StepsRefused}
 use Rattle.routes.specs.declared.EquationAnswer.the-variants.{Yes, No, Refused as EquationRefused}
-use Rattle.routes.specs.Checks.{manyCheck, listCheck}
+use Rattle.guards.specs.Checks.{manyCheck, listCheck}
 use Rattle.routes.specs.Calls.{matrixOf, freshCheck, freshLeftBy, freshLeft, stepOf, runOf, doneOf, matricesChecks, stepsCheck, stepsRowBy, stepsRow, stepsLeftBy, stepsLeft, stepsSaid, equationRowBy, equationRow, equationSaid}
 use Rattle.routes.specs.Ready.{Passing, runLeft, runDone}
 use Rattle.routes.proofs.Bridge.{buffer-goes, fresh-words, solves-go, run-bridge}

@@ -29,9 +29,9 @@ use Rattle.weights.proofs.Decided.{D-exact, U-exact}
 use Rattle.weights.proofs.Cases.{refuses-where, passes-where, both-exactly, leb-exactly, count-case, firstFrom, first-case, limits-are, limit-case}
 use Rattle.matrices.specs.Buffers.{wellFormed, firstMalformed, matrixCheck, Square}
 use Rattle.matrices.proofs.Malformed.{refuses-first, check-refuses}
-use Rattle.routes.specs.Checks.{mostNodes, mostSteps, firstSettle, nodesCheck, lengthCheck, lawDCheck, lawUCheck, manyCheck, isStep, stepsFrom, listCheck, nodeCheck}
+use Rattle.guards.specs.Checks.{mostNodes, mostSteps, firstSettle, nodesCheck, lengthCheck, lawDCheck, lawUCheck, manyCheck, isStep, stepsFrom, listCheck, nodeCheck}
 use Rattle.routes.specs.Exact.{NodesInRange, MatrixLong, IsStep, sizes, MatricesRefusals}
-use Rattle.routes.proofs.Order.{nodes-passed, length-passed}
+use Rattle.guards.proofs.Singles.{nodes-passed, length-passed}
 use Rattle.routes.proofs.OneTeller.{Teller, checksOf, ofNumber, ofBuffer, one, noneTells, given-where}
 
 -- a call whose answer is its checks' is done exactly where every check passes

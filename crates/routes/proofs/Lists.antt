@@ -23,7 +23,7 @@ use Rattle.weights.specs.Languages.{placesOf}
 use Rattle.matrices.specs.Buffers.{matrixWords, matrixIn}
 use Rattle.matrices.specs.Steps.{rowFits, stepped, Given}
 use Rattle.matrices.proofs.Kept.{row-given, settle-given}
-use Rattle.routes.specs.Checks.{isStep, stepsFrom, manyCheck, listCheck, firstSettle, mostSteps}
+use Rattle.guards.specs.Checks.{isStep, stepsFrom, manyCheck, listCheck, firstSettle, mostSteps}
 use Rattle.routes.specs.Calls.{stepOf, stepFits}
 use Rattle.routes.specs.Ready.{AllSteps, stepLeft, runLeft, runDone}
 use Rattle.routes.proofs.Order.{last}

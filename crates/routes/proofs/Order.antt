@@ -1,14 +1,11 @@
 -- The checks of a call, group by group: which refusal is given, and what is known once all have passed.
-use Prim.Native.Nat.{ℕ, _*_, _≤_, _<_}
+use Prim.Native.Nat.{ℕ}
 use mathlib.Core.Path.{_≡_, refl, sym, ap, ap₂, subst, _∙_}
-use mathlib.Core.Bool.{Bool, true, false, _&&_, and-false}
+use mathlib.Core.Bool.{Bool, true}
 use mathlib.Core.List.{List, [], _∷_, _++_}
 use native.Mathlib.Omega.{arith}
-use lib.Dec.{leb, ltb, eqb}
-use lib.ListN.{length}
-use borrow.Author.Tests.{leb-true, lt-leb, le-leb, ltb-true, lt-ltb, le-ltb, eqb-true, eq-eqb, ne-eqb}
 use Rattle.refusals.specs.declared.Refusal.{Refusal}
-use Rattle.refusals.specs.declared.Refusal.the-variants.{Size, NoSuch, Length, Law}
+use Rattle.refusals.specs.declared.Refusal.the-variants.{Law}
 use Rattle.refusals.specs.declared.Check.{Check}
 use Rattle.refusals.specs.declared.Check.the-variants.{Passed, Refused}
 use Rattle.refusals.specs.Checks.{unless, orElse, firstOf}
@@ -16,7 +13,7 @@ use Rattle.refusals.proofs.First.{passed-not, unless-passes, or-passed}
 use Rattle.weights.specs.declared.Component.{Component}
 use Rattle.weights.specs.declared.Language.{Language}
 use Rattle.weights.specs.declared.Places.{Places}
-use Rattle.weights.specs.Sizes.{places, weightWords, arcSum, matrixSum}
+use Rattle.weights.specs.Sizes.{places, arcSum, matrixSum}
 use Rattle.weights.specs.Weights.{Sound}
 use Rattle.weights.specs.Laws.{testD, testU}
 use Rattle.weights.specs.Languages.{componentsOf, countCheck, limitCheck, languageCheck, padded, placesOf, SmallLimits}
@@ -25,9 +22,10 @@ use Rattle.weights.proofs.Checking.{few, check-sound}
 use Rattle.matrices.specs.Buffers.{Square}
 use Rattle.matrices.specs.Steps.{Given}
 use Rattle.matrices.proofs.Malformed.{check-formed}
-use Rattle.routes.specs.Checks.{nodesCheck, lengthCheck, lawDCheck, lawUCheck, arcsCheck, routesCheck, nodeCheck, mostNodes}
+use Rattle.guards.specs.Checks.{nodesCheck, lengthCheck, lawDCheck, lawUCheck, arcsCheck, routesCheck}
 use Rattle.routes.specs.Calls.{freshCheck, matricesChecks}
 use Rattle.routes.specs.Ready.{Passing}
+use Rattle.guards.proofs.Singles.{nodes-passed, length-passed}
 use Rattle.routes.proofs.Bridge.{check-pad}
 
 -- ---- one check after another
@@ -90,51 +88,10 @@ matrices-rest l n a r rest = all (nodesCheck n ∷ countCheck l ∷ limitCheck l
     all (Passed ∷ cs) = all cs
     all (Refused r ∷ cs) = refl
 
--- ---- single checks
-
-pub nodes-low : (n : ℕ) → n < 1 → Refused (Size 1 0) ≡ nodesCheck n
-nodes-low n h = rw (lt-leb 1 n h)
-
-pub nodes-high : (n : ℕ) → mostNodes < n → Refused (Size 1 0) ≡ nodesCheck n
-nodes-high n h = rw (lt-leb n mostNodes h, and-false)
-
-pub nodes-in : (n : ℕ) → 1 ≤ n → n ≤ mostNodes → Passed ≡ nodesCheck n
-nodes-in n h k = rw (le-leb 1 n h, le-leb n mostNodes k)
-
-pub nodes-passed : (n : ℕ) → nodesCheck n ≡ Passed → (1 ≤ n) × (n ≤ 16)
-nodes-passed n e = go (leb 1 n) (leb n 16) refl refl (unless-passes (leb 1 n && leb n 16) (Size 1 0) e)
-  where
-    go : (a b : Bool) → leb 1 n ≡ a → leb n 16 ≡ b → (a && b) ≡ true → (1 ≤ n) × (n ≤ 16)
-    go true true p q h = (leb-true 1 n p, leb-true n 16 q)
-    go true false p q h = absurd (false-true h)
-      where
-        false-true : false ≡ true → ⊥
-        false-true z = let y : _≡_ {A = ℕ} 0 1 = cc in omega arith
-    go false b p q h = absurd (false-true h)
-      where
-        false-true : false ≡ true → ⊥
-        false-true z = let y : _≡_ {A = ℕ} 0 1 = cc in omega arith
-
-pub length-other : (which n : ℕ) (s : List ℕ) → (length s ≡ n * (n * weightWords) → ⊥) → Refused (Length which 0) ≡ lengthCheck which n s
-length-other which n s f = rw (ne-eqb (length s) (n * (n * weightWords)) f)
-
-pub length-same : (which n : ℕ) (s : List ℕ) → length s ≡ n * (n * weightWords) → Passed ≡ lengthCheck which n s
-length-same which n s e = rw (eq-eqb (length s) (n * (n * weightWords)) e)
-
-pub length-passed : (which n : ℕ) (s : List ℕ) → n ≤ 16 → lengthCheck which n s ≡ Passed → Square n s
-length-passed which n s h e = record { few = h; long = eqb-true (length s) (n * (n * weightWords)) (unless-passes (eqb (length s) (n * (n * weightWords))) (Length which 0) e) }
+-- ---- the laws
 
 pub laws-passed : (cs : List Component) → firstOf (lawDCheck cs ∷ lawUCheck cs ∷ []) ≡ Passed → (testD cs ≡ true) × (testU cs ≡ true)
 laws-passed cs e = let h = passed-both (lawDCheck cs) (lawUCheck cs) e in (unless-passes (testD cs) (Law 1 0) (h .0), unless-passes (testU cs) (Law 2 0) (h .1))
-
-pub node-in : (place n i : ℕ) → i < n → Passed ≡ nodeCheck place n i
-node-in place n i h = rw (lt-ltb i n h)
-
-pub node-out : (place n i : ℕ) → n ≤ i → Refused (NoSuch 0 place) ≡ nodeCheck place n i
-node-out place n i h = rw (le-ltb i n h)
-
-pub node-passed : (place n i : ℕ) → nodeCheck place n i ≡ Passed → i < n
-node-passed place n i e = ltb-true i n (unless-passes (ltb i n) (NoSuch 0 place) e)
 
 -- ---- in the places and in the language
 

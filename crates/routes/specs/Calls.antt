@@ -22,7 +22,7 @@ use Rattle.routes.specs.declared.StepsAnswer.{StepsAnswer}
 use Rattle.routes.specs.declared.StepsAnswer.the-variants.{Done, Refused as StepsRefused}
 use Rattle.routes.specs.declared.EquationAnswer.{EquationAnswer}
 use Rattle.routes.specs.declared.EquationAnswer.the-variants.{Yes, No, Refused as EquationRefused}
-use Rattle.routes.specs.Checks.{nodesCheck, lengthCheck, lawDCheck, lawUCheck, arcsCheck, routesCheck, manyCheck, listCheck, firstSettle}
+use Rattle.guards.specs.Checks.{nodesCheck, lengthCheck, lawDCheck, lawUCheck, arcsCheck, routesCheck, manyCheck, listCheck, firstSettle}
 
 -- the n x n matrix that a buffer holds, in the language
 abbrev pub matrixOf : Language → ℕ → List ℕ → Matrix

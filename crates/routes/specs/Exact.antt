@@ -17,7 +17,7 @@ use Rattle.weights.specs.Weights.{SoundLimit}
 use Rattle.weights.specs.Laws.{LawD, LawU}
 use Rattle.weights.specs.Languages.{componentsOf, countCheck, limitCheck, CountInRange, FirstNot}
 use Rattle.matrices.specs.Buffers.{AtFirst}
-use Rattle.routes.specs.Checks.{mostNodes, firstSettle, nodesCheck, lengthCheck, lawDCheck, lawUCheck, arcsCheck, routesCheck}
+use Rattle.guards.specs.Checks.{mostNodes, firstSettle, nodesCheck, lengthCheck, lawDCheck, lawUCheck, arcsCheck, routesCheck}
 
 -- ---- words of the cases
 

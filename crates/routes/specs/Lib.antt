@@ -1,4 +1,3 @@
-pub mod Checks
 pub mod Calls
 pub mod Ready
 pub mod Exact

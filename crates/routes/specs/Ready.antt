@@ -21,7 +21,7 @@ use Rattle.routes.specs.declared.Ready.{Ready}
 use Rattle.routes.specs.declared.Ready.the-variants.{Given as Places-given, Refused as Call-refused}
 use Rattle.routes.specs.declared.Step.{Step}
 use Rattle.routes.specs.declared.Step.the-variants.{Row, Settle}
-use Rattle.routes.specs.Checks.{isStep}
+use Rattle.guards.specs.Checks.{isStep}
 use Rattle.routes.specs.Calls.{freshCheck, matricesChecks, stepFits}
 
 -- the language in its places, lawful, and a number of nodes

@@ -1,70 +1,29 @@
 // The checks that the calls on a network share, in 01's order.
-use super::MOST_NODES;
 use super::Ready;
 use refusals::Check;
-use refusals::Refusal;
 use weights::ARC_SUM;
 use weights::Checked;
 use weights::Language;
 use weights::MATRIX_SUM;
 use weights::Places;
-use weights::WEIGHT_WORDS;
 ghost use mathlib.Core.Path.{_≡_};
 ghost use mathlib.Core.List.{[], _∷_};
 ghost use Prim.Native.Nat.{_≤_};
 ghost use Rattle.refusals.specs.Checks.{firstOf};
 ghost use Rattle.weights.specs.Languages.{placesOf};
 ghost use Rattle.matrices.specs.Buffers.{Square};
-ghost use Rattle.routes.specs.Checks.{nodesCheck, lengthCheck, lawDCheck, lawUCheck, arcsCheck, routesCheck, nodeCheck};
+ghost use Rattle.guards.specs.Checks.{lengthCheck, arcsCheck, routesCheck};
 ghost use Rattle.routes.specs.Ready.{FreshReady, MatricesReady};
-
-// 3: the number of nodes.
-pub fn check_nodes(n: u32) -> Check
-    ensures { λ c. ⌜ c ≡ nodesCheck n ⌝ }
-{
-    if n < 1 {
-        return Check::Refused(Refusal::Size { which: 1, place: 0 });
-    }
-    if MOST_NODES < n {
-        return Check::Refused(Refusal::Size { which: 1, place: 0 });
-    }
-    Check::Passed
-}
-
-// 9: the words of an n x n matrix.
-pub fn check_length(which: u32, n: usize, s: &[u32]) -> Check
-    requires { ⌜ n ≤ 16 ⌝ }
-    ensures { λ c. ⌜ c ≡ lengthCheck which n (now (s .entry)) ⌝ }
-{
-    let words = n * (n * WEIGHT_WORDS);
-    if s.len() != words {
-        return Check::Refused(Refusal::Length { which, place: 0 });
-    }
-    Check::Passed
-}
 
 // 9 on A, then on R.
 fn check_lengths(n: usize, a: &[u32], r: &[u32]) -> Check
     requires { ⌜ n ≤ 16 ⌝ }
     ensures { λ c. ⌜ c ≡ firstOf (lengthCheck 1 n (now (a .entry)) ∷ lengthCheck 2 n (now (r .entry)) ∷ []) ⌝ }
 {
-    match check_length(1, n, a) {
+    match guards::check_length(1, n, a) {
         Check::Refused(x) => Check::Refused(x),
-        Check::Passed => check_length(2, n, r),
+        Check::Passed => guards::check_length(2, n, r),
     }
-}
-
-// 10: law D, then U.
-pub fn check_laws(p: Places) -> Check
-    ensures { λ c. ⌜ c ≡ firstOf (lawDCheck (placesOf p) ∷ lawUCheck (placesOf p) ∷ []) ⌝ }
-{
-    if !laws::has_d(p) {
-        return Check::Refused(Refusal::Law { which: 1, place: 0 });
-    }
-    if !laws::has_u(p) {
-        return Check::Refused(Refusal::Law { which: 2, place: 0 });
-    }
-    Check::Passed
 }
 
 // 6 on A, then on R.
@@ -78,27 +37,17 @@ fn check_entries(p: Places, n: usize, a: &[u32], r: &[u32]) -> Check
     }
 }
 
-// 7: the node that is the call's argument number `place`.
-pub fn check_node(place: u32, n: u32, i: u32) -> Check
-    ensures { λ c. ⌜ c ≡ nodeCheck place n i ⌝ }
-{
-    if i < n {
-        return Check::Passed;
-    }
-    Check::Refused(Refusal::NoSuch { which: 0, place })
-}
-
 // The checks of fresh: 3, 5, 4, 9, 10.
 pub fn ready_to_write(l: Language, n: u32, r: &[u32]) -> Ready
     ensures { λ c. ⌜ FreshReady l n (now (r .entry)) c ⌝ }
 {
-    match check_nodes(n) {
+    match guards::check_nodes(n) {
         Check::Refused(x) => Ready::Refused(x),
         Check::Passed => match placing::check(l) {
             Checked::Unsound(x) => Ready::Refused(x),
-            Checked::Sound(p) => match check_length(2, n as usize, r) {
+            Checked::Sound(p) => match guards::check_length(2, n as usize, r) {
                 Check::Refused(x) => Ready::Refused(x),
-                Check::Passed => match check_laws(p) {
+                Check::Passed => match guards::check_laws(p) {
                     Check::Refused(x) => Ready::Refused(x),
                     Check::Passed => Ready::Given(p),
                 },
@@ -111,13 +60,13 @@ pub fn ready_to_write(l: Language, n: u32, r: &[u32]) -> Ready
 pub fn ready(l: Language, n: u32, a: &[u32], r: &[u32]) -> Ready
     ensures { λ c. ⌜ MatricesReady l n (now (a .entry)) (now (r .entry)) c ⌝ }
 {
-    match check_nodes(n) {
+    match guards::check_nodes(n) {
         Check::Refused(x) => Ready::Refused(x),
         Check::Passed => match placing::check(l) {
             Checked::Unsound(x) => Ready::Refused(x),
             Checked::Sound(p) => match check_lengths(n as usize, a, r) {
                 Check::Refused(x) => Ready::Refused(x),
-                Check::Passed => match check_laws(p) {
+                Check::Passed => match guards::check_laws(p) {
                     Check::Refused(x) => Ready::Refused(x),
                     Check::Passed => match check_entries(p, n as usize, a, r) {
                         Check::Refused(x) => Ready::Refused(x),

@@ -1,5 +1,5 @@
-// The calls fresh and equation, and what they share with the step call, which stands in `steps`: checks and types. They take every
-// input.
+// The calls fresh and equation, and what they share with the step call, which stands in `steps`: the checks in 01's order, and
+// types. They take every input.
 pub mod checks;
 pub mod equation;
 pub mod fresh;
@@ -7,8 +7,6 @@ pub mod fresh;
 use numbers::Node;
 use refusals::Refusal;
 use weights::Places;
-
-pub const MOST_NODES: u32 = 16;
 
 pub const MOST_STEPS: usize = 4096;
 

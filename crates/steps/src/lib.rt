@@ -20,7 +20,7 @@ ghost use Rattle.weights.specs.Sizes.{places};
 ghost use Rattle.matrices.specs.Buffers.{matrixIn};
 ghost use Rattle.matrices.specs.Steps.{Given};
 ghost use lib.ListN.{length};
-ghost use Rattle.routes.specs.Checks.{isStep, manyCheck, listCheck, mostSteps};
+ghost use Rattle.guards.specs.Checks.{isStep, manyCheck, listCheck, mostSteps};
 ghost use Rattle.routes.specs.Calls.{stepOf, stepFits, stepsRow, stepsLeft, stepsSaid};
 ghost use Rattle.routes.specs.Ready.{stepMeant, stepLeft, AllSteps, runLeft, runDone};
 

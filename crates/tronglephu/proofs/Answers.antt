@@ -22,9 +22,10 @@ use Rattle.weights.specs.Languages.{componentsOf, countCheck, limitCheck, langu
 use Rattle.laws.specs.declared.Law.{Law}
 use Rattle.laws.specs.declared.LawAnswer.the-variants.{Laws, Refused as NoLaws}
 use Rattle.laws.specs.Report.{Report, reportOf, report, lawOf, answerRow}
-use Rattle.routes.specs.Checks.{nodeCheck}
+use Rattle.guards.specs.Checks.{nodeCheck}
 use Rattle.routes.specs.Calls.{matricesChecks}
-use Rattle.routes.proofs.Order.{pair, stops, goes-on, nodes-passed}
+use Rattle.routes.proofs.Order.{pair, stops, goes-on}
+use Rattle.guards.proofs.Singles.{nodes-passed}
 use Rattle.hops.specs.declared.HopAnswer.the-variants.{Hop, Refused as HopRefused}
 use Rattle.hops.specs.Calls.{HopRow, hopRow, hopSaid}
 use Rattle.hops.proofs.Exact.{hop-given}

@@ -1,5 +1,5 @@
 -- The sizes that 01 fixes for a language, a weight, an entry and their sums. The most nodes, steps and destinations are named where
--- they are checked (routes/specs/Checks, forwarding/specs/Checks); the 1,024 and 2,560 words of the reader's buffers have no name.
+-- they are checked (guards/specs/Checks, table_guards/specs/Checks); the 1,024 and 2,560 words of the reader's buffers have no name.
 -- To be believed: all of it.
 use Prim.Native.Nat.{ℕ}
 

@@ -5,7 +5,7 @@ use native.Mathlib.Omega.{arith}
 use lib.ListN.{length, drop}
 use borrow.Author.Tests.{not-true, not-false}
 use Rattle.refusals.specs.Checks.{firstOf}
-use Rattle.routes.specs.Checks.{manyCheck, listCheck, stepsFrom}
+use Rattle.guards.specs.Checks.{manyCheck, listCheck, stepsFrom}
 use Rattle.routes.proofs.Lists.{too-many, list-start, list-bad, list-more, list-end}
 use borrow.Author.Needs.{needs}
 use Rattle.steps.proofs.check_list.Statement.{statement}

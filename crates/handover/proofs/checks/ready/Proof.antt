@@ -1,6 +1,6 @@
 use mathlib.Core.Path.{sym, _∙_}
 use native.Mathlib.Omega.{arith}
-use Rattle.routes.proofs.Order.{nodes-passed}
+use Rattle.guards.proofs.Singles.{nodes-passed}
 use Rattle.handover.proofs.Order.{by-nodes, by-language, by-lengths, squares, by-laws, by-arcs, all-pass}
 use borrow.Author.Needs.{needs}
 use Rattle.handover.proofs.checks.ready.Statement.{statement}

@@ -1,5 +1,6 @@
 use mathlib.Core.Path.{sym, _∙_}
-use Rattle.routes.proofs.Order.{nodes-passed, squares, by-nodes, by-language, by-lengths, by-laws, by-entries, all-pass}
+use Rattle.routes.proofs.Order.{squares, by-nodes, by-language, by-lengths, by-laws, by-entries, all-pass}
+use Rattle.guards.proofs.Singles.{nodes-passed}
 use borrow.Author.Needs.{needs}
 use Rattle.routes.proofs.checks.ready.Statement.{statement}
 use Rattle.routes.proofs.checks.ready.Tie as tie

@@ -1,5 +1,6 @@
 use mathlib.Core.Path.{sym, _∙_}
-use Rattle.routes.proofs.Order.{nodes-passed, fresh-by-nodes, fresh-by-language, fresh-by-length, fresh-by-laws, fresh-pass}
+use Rattle.routes.proofs.Order.{fresh-by-nodes, fresh-by-language, fresh-by-length, fresh-by-laws, fresh-pass}
+use Rattle.guards.proofs.Singles.{nodes-passed}
 use borrow.Author.Needs.{needs}
 use Rattle.routes.proofs.checks.ready_to_write.Statement.{statement}
 use Rattle.routes.proofs.checks.ready_to_write.Tie as tie

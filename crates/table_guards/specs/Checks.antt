@@ -1,4 +1,4 @@
--- The checks that only forwarding has (01, "Refusal numbers"), each a refusal or none; the others are those of routes/specs/Checks.
+-- The checks that only forwarding has (01, "Refusal numbers"), each a refusal or none; the others are those of guards/specs/Checks.
 -- To be believed: all of it.
 use Prim.Native.Nat.{ℕ, _*_}
 use mathlib.Core.Bool.{not, _||_}

@@ -1,9 +1,9 @@
 use native.Mathlib.Omega.{arith}
 use Rattle.matrices.proofs.Blocks.{square-small}
-use Rattle.routes.proofs.Order.{length-other, length-same}
+use Rattle.guards.proofs.Singles.{length-other, length-same}
 use borrow.Author.Needs.{needs}
-use Rattle.routes.proofs.checks.check_length.Statement.{statement}
-use Rattle.routes.proofs.checks.check_length.Tie as tie
+use Rattle.guards.proofs.check_length.Statement.{statement}
+use Rattle.guards.proofs.check_length.Tie as tie
 
 mul-words : tie.Need-mul-words
 mul-words c = search needs

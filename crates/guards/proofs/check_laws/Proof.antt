@@ -1,8 +1,8 @@
 use mathlib.Core.Path.{sym, _∙_}
 use borrow.Author.Tests.{not-true, not-false}
 use borrow.Author.Needs.{needs}
-use Rattle.routes.proofs.checks.check_laws.Statement.{statement}
-use Rattle.routes.proofs.checks.check_laws.Tie as tie
+use Rattle.guards.proofs.check_laws.Statement.{statement}
+use Rattle.guards.proofs.check_laws.Tie as tie
 
 has-d-requires : tie.Need-has-d-requires
 has-d-requires c κs = search needs

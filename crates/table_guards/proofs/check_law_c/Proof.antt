@@ -2,10 +2,10 @@ use mathlib.Core.Bool.{true, false}
 use Rattle.weights.specs.Languages.{placesOf}
 use mathlib.Core.Path.{sym, _∙_}
 use borrow.Author.Tests.{not-true, not-false}
-use Rattle.forwarding.proofs.Order.{law-C-free, law-C-tested}
+use Rattle.table_guards.proofs.TableSingles.{law-C-free, law-C-tested}
 use borrow.Author.Needs.{needs}
-use Rattle.forwarding.proofs.checks.check_law_c.Statement.{statement}
-use Rattle.forwarding.proofs.checks.check_law_c.Tie as tie
+use Rattle.table_guards.proofs.check_law_c.Statement.{statement}
+use Rattle.table_guards.proofs.check_law_c.Tie as tie
 
 needs-c-requires : tie.Need-needs-c-requires
 needs-c-requires c κs = search needs

@@ -1,6 +1,6 @@
-use Rattle.forwarding.proofs.Order.{destinations-high, destinations-in}
-use Rattle.forwarding.proofs.checks.check_destinations.Statement.{statement}
-use Rattle.forwarding.proofs.checks.check_destinations.Tie as tie
+use Rattle.table_guards.proofs.TableSingles.{destinations-high, destinations-in}
+use Rattle.table_guards.proofs.check_destinations.Statement.{statement}
+use Rattle.table_guards.proofs.check_destinations.Tie as tie
 
 returns : tie.Need-returns
 returns c = destinations-high _ (c .if1 .taken)

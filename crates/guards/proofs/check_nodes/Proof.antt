@@ -1,6 +1,6 @@
-use Rattle.routes.proofs.Order.{nodes-low, nodes-high, nodes-in}
-use Rattle.routes.proofs.checks.check_nodes.Statement.{statement}
-use Rattle.routes.proofs.checks.check_nodes.Tie as tie
+use Rattle.guards.proofs.Singles.{nodes-low, nodes-high, nodes-in}
+use Rattle.guards.proofs.check_nodes.Statement.{statement}
+use Rattle.guards.proofs.check_nodes.Tie as tie
 
 returns : tie.Need-returns
 returns c = nodes-low _ (c .if1 .taken)

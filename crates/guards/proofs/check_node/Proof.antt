@@ -1,7 +1,7 @@
 use native.Mathlib.Omega.{arith}
-use Rattle.routes.proofs.Order.{node-in, node-out}
-use Rattle.routes.proofs.checks.check_node.Statement.{statement}
-use Rattle.routes.proofs.checks.check_node.Tie as tie
+use Rattle.guards.proofs.Singles.{node-in, node-out}
+use Rattle.guards.proofs.check_node.Statement.{statement}
+use Rattle.guards.proofs.check_node.Tie as tie
 
 returns : tie.Need-returns
 returns c = node-in (c .before .args .place) (c .before .args .n) (c .before .args .i) (c .if1 .taken)

@@ -1,9 +1,9 @@
 use native.Mathlib.Nat.{mul-le-mul, mul-le-mul-right}
 use native.Mathlib.Omega.{arith}
-use Rattle.forwarding.proofs.Order.{length-other, length-same}
+use Rattle.table_guards.proofs.TableSingles.{length-other, length-same}
 use borrow.Author.Needs.{needs}
-use Rattle.forwarding.proofs.checks.check_table_length.Statement.{statement}
-use Rattle.forwarding.proofs.checks.check_table_length.Tie as tie
+use Rattle.table_guards.proofs.check_table_length.Statement.{statement}
+use Rattle.table_guards.proofs.check_table_length.Tie as tie
 
 mul-words : tie.Need-mul-words
 mul-words c = search needs
