@@ -1,4 +1,5 @@
--- What a file without a fault leaves in the two buffers (01, "Numbers of the network"): the words of the weights that it lists.
+-- What a file without a fault leaves in the two buffers (01, "File" and "Numbers of the network"): the words of the weights that it
+-- lists.
 -- To be believed: all of it.
 use Prim.Native.Nat.{ℕ, zero, suc, _+_, _*_}
 use mathlib.Core.Bool.{Bool, cond, _&&_}

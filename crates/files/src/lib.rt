@@ -1,4 +1,5 @@
-// The problem file: its bytes are checked from the first to the last, then what it lists is written into two lent buffers.
+// The problem file: its bytes are checked from the first to the last (by `fields` and `records`), then what it lists is written into
+// two lent buffers (by `contents`).
 pub mod checking;
 pub mod reading;
 

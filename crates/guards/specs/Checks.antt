@@ -1,4 +1,4 @@
--- The checks that the calls on a network share (01, "Refusal numbers"), each a refusal or none.
+-- The checks that the calls on a network share (01, "Refusal numbers"), and those of a step list (13, 7), each a refusal or none.
 -- To be believed: all of it.
 use Prim.Native.Nat.{ℕ, suc, _-_, _*_}
 use mathlib.Core.Bool.{Bool, cond, _&&_, _||_}

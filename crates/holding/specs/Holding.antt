@@ -1,5 +1,5 @@
 -- The comparison of a buffer with a matrix, column by column. It joins the code to the test of a handover; nothing here has to be
--- believed: that all columns have the words exactly where the buffer is the words is `all-words`.
+-- believed: that all columns have the words exactly where the buffer is the words is `all-words` (proofs/Words).
 use Prim.Native.Nat.{ℕ, _*_}
 use mathlib.Core.Bool.{Bool}
 use mathlib.Core.List.{List}

@@ -1,6 +1,6 @@
 -- A row step with its refusal 11, and the test of the routing equation, on matrices as functions from (i, j) to weights.
 -- To be believed: all but `stepped`, which says what the function of a row step leaves, and `Given` and `GivenArcs`, which say what
--- the functions of `arcs`, `rows` and `columns` may rely on.
+-- the functions of `arcs`, `rows`, `columns` and the crates above may rely on.
 use Prim.Native.Nat.{ℕ, zero, suc}
 use mathlib.Core.Path.{_≡_}
 use mathlib.Core.Bool.{Bool, true, cond, _&&_}

@@ -1,4 +1,4 @@
--- Two answers that meet one contract are equal.
+-- Two answers that meet one contract are equal, with what they leave in the buffer; so are two answers of the checks.
 use Prim.Native.Nat.{ℕ}
 use mathlib.Core.Path.{_≡_, refl, sym, ap, ap₂, _∙_}
 use mathlib.Core.Bool.{true}

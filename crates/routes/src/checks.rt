@@ -1,4 +1,4 @@
-// The checks that the calls on a network share, in 01's order.
+// The checks of fresh, and those that the calls on A and R share (equation, steps, next hop), in 01's order.
 use super::Ready;
 use refusals::Check;
 use weights::ARC_SUM;

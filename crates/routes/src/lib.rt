@@ -1,5 +1,5 @@
-// The calls fresh and equation, and what they share with the step call, which stands in `steps`: the checks in 01's order, and
-// types. They take every input.
+// The calls fresh and equation, the checks in 01's order, and the types of which specs/ speaks; the step call stands in `steps`.
+// They take every input.
 pub mod checks;
 pub mod equation;
 pub mod fresh;

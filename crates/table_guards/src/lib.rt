@@ -1,4 +1,4 @@
-// The single checks that only forwarding has, each a refusal or none.
+// Three single checks that only forwarding has: 3 on m, 9 on a table, 10 for law C. Those of the mode and of 12 are in `forwarding`.
 use modes::Mode;
 use refusals::Check;
 use refusals::Refusal;
