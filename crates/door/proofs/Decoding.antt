@@ -10,7 +10,7 @@ use Rattle.refusals.specs.declared.Check.the-variants.{Refused}
 use Rattle.weights.specs.declared.Component.{Component}
 use Rattle.weights.specs.declared.Component.the-variants.{Dist, Width, Class, Gain}
 use Rattle.weights.specs.declared.Language.{Language}
-use Rattle.weights.specs.Languages.{countCheck, soundLimit}
+use Rattle.weights.specs.Languages.{countCase, soundLimit}
 use Rattle.fields.specs.Nested.{noLanguage}
 use Rattle.door.specs.Languages.{languageNumbers, componentOf, languageOf}
 
@@ -47,8 +47,8 @@ made-language s a b c d h p q r t = rw (eq-eqb (length s) languageNumbers h, p, 
 -- ---- refused
 
 -- a slice of another length than nine is refused 5
-pub length-refused : (s : List ℕ) → (length s ≡ languageNumbers → ⊥) → countCheck (languageOf s) ≡ Refused (BadCount 0 0)
-length-refused s h = ap countCheck (sym (no-language s h))
+pub length-refused : (s : List ℕ) → (length s ≡ languageNumbers → ⊥) → countCase (languageOf s) .check ≡ Refused (BadCount 0 0)
+length-refused s h = ap (λ (l : Language). countCase l .check) (sym (no-language s h))
 
 -- a component of an unknown kind is unsound, whatever its limit: 4 at its index, where no earlier one is
 pub unknown-unsound : (kind limit : ℕ) → (kind ≡ 1 → ⊥) → (kind ≡ 2 → ⊥) → (kind ≡ 3 → ⊥) → (kind ≡ 4 → ⊥) → soundLimit (componentOf kind limit) ≡ false

@@ -1,3 +1,5 @@
 pub mod Passing
 pub mod Advancing
 pub mod Fuel
+pub mod Cases
+pub mod Walk

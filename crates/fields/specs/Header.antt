@@ -1,5 +1,5 @@
 -- The header of a problem file, field by field, and the first refusal where it is wrong (01, "File" and "Refusal numbers").
--- To be believed: all of it.
+-- To be believed: all of it, but that its refusals are those of the file's words, which is proved (proofs/Cases).
 use Prim.Native.Nat.{ℕ}
 use mathlib.Core.Bool.{cond, _&&_}
 use mathlib.Core.List.{List}

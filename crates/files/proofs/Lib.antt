@@ -1,3 +1,3 @@
 pub mod Answering
-pub mod Faults
+pub mod Cases
 pub mod Bodies

@@ -1,5 +1,5 @@
 -- What a problem file says, or the first refusal in the order of the file (01, "File" and "Refusal numbers").
--- To be believed: all of it.
+-- To be believed: all of it, but that its refusals are those of the file's words, which is `read-told` (proofs/Cases).
 use Prim.Native.Nat.{ℕ, _-_}
 use mathlib.Core.Bool.{Bool, cond, _&&_}
 use mathlib.Core.List.{List}

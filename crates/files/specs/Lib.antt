@@ -1,4 +1,4 @@
 pub mod File
 pub mod Answers
 pub mod PrintedFile
-pub mod Faults
+pub mod Cases

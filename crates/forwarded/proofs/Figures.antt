@@ -21,7 +21,8 @@ use Rattle.modes.specs.declared.Mode.{Mode}
 use Rattle.modes.specs.declared.Mode.the-variants.{Hot, Cold}
 use Rattle.modes.specs.Entries.{Entry, empty, modeOf}
 use Rattle.tables.specs.Tables.{wordsOf, tableWords, tableIn}
-use Rattle.forwarding.specs.Calls.{forwardCheck, forwardLeft}
+use Rattle.guards.specs.OnNetwork.{onNetwork}
+use Rattle.forwarding.specs.Calls.{OnTables, onTables, forwardCheck, forwardLeft}
 use Rattle.histories.specs.Examples.{written, distance, distanceLanguage}
 use Rattle.forwarded.specs.Figures.{tabled, rowsOf, valueWithT, band, unlimited, bandRoutes, bandArcs, bandMapping, bandTable, pair, distanceRoutes, distanceArcs, distanceMapping, distanceTable, bandLanguage}
 
@@ -60,24 +61,29 @@ distance-forwarded x y = rw (ne-eqb (suc y + 0) 0 (λ q. omega arith), ne-eqb 0 
 
 -- ---- the calls, on the buffers of these tables
 
-abbrev bandWords : List ℕ
-bandWords = tableWords 4 2 (tabled (bandMapping (valueWithT unlimited 3) empty empty))
+-- figure 6(b) and (c), in a mode
+abbrev bandIn : ℕ → OnTables
+bandIn mode = onTables (onNetwork bandLanguage 4 (matrixWords 4 bandArcs)) 2 mode (matrixWords 4 (written bandRoutes)) (tableWords 4 2 (tabled (bandMapping (valueWithT unlimited 3) empty empty)))
+
+-- figure 6(f) and (g), in a mode
+abbrev distanceIn : ℕ → OnTables
+distanceIn mode = onTables (onNetwork distanceLanguage 5 (matrixWords 5 distanceArcs)) 2 mode (matrixWords 5 (written (distanceRoutes 5 5))) (tableWords 5 2 (tabled distanceMapping))
 
 -- in mode 3 the call on figure 6(b) and (c) is done, and leaves figure 6(d)
 pub band-call :
-    (checkTold (forwardCheck bandLanguage 4 2 3 (matrixWords 4 bandArcs) (matrixWords 4 (written bandRoutes)) bandWords (replicate 40 0)) ≡ done)
-    × (forwardLeft bandLanguage 4 2 3 (matrixWords 4 bandArcs) (matrixWords 4 (written bandRoutes)) bandWords (replicate 40 0) ≡ tableWords 4 2 (tabled bandTable))
+    (checkTold (forwardCheck (bandIn 3) (replicate 40 0)) ≡ done)
+    × (forwardLeft (bandIn 3) (replicate 40 0) ≡ tableWords 4 2 (tabled bandTable))
 unfolding blocks words wordsOf firstMalformed cell tableIn every routed forwarded bestOf pick
 band-call = (refl, refl)
 
 -- in mode 2 it is refused for law C, which width does not have
-pub band-hot : checkTold (forwardCheck bandLanguage 4 2 2 (matrixWords 4 bandArcs) (matrixWords 4 (written bandRoutes)) bandWords (replicate 40 0)) ≡ row 10 3 0
+pub band-hot : checkTold (forwardCheck (bandIn 2) (replicate 40 0)) ≡ row 10 3 0
 unfolding blocks words wordsOf firstMalformed cell tableIn every routed forwarded bestOf pick
 band-hot = refl
 
 -- in mode 2 the call on figure 6(f) and (g) is done, and leaves figure 6(h)
 pub distance-call :
-    (checkTold (forwardCheck distanceLanguage 5 2 2 (matrixWords 5 distanceArcs) (matrixWords 5 (written (distanceRoutes 5 5))) (tableWords 5 2 (tabled distanceMapping)) (replicate 50 0)) ≡ done)
-    × (forwardLeft distanceLanguage 5 2 2 (matrixWords 5 distanceArcs) (matrixWords 5 (written (distanceRoutes 5 5))) (tableWords 5 2 (tabled distanceMapping)) (replicate 50 0) ≡ tableWords 5 2 (tabled distanceTable))
+    (checkTold (forwardCheck (distanceIn 2) (replicate 50 0)) ≡ done)
+    × (forwardLeft (distanceIn 2) (replicate 50 0) ≡ tableWords 5 2 (tabled distanceTable))
 unfolding blocks words wordsOf firstMalformed cell tableIn every routed forwarded bestOf pick
 distance-call = (refl, refl)

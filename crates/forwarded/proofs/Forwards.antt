@@ -7,11 +7,8 @@ use mathlib.Core.List.{List, [], _∷_}
 use native.Mathlib.Omega.{arith}
 use lib.Dec.{ltb}
 use lib.ListN.{length}
-use Rattle.refusals.specs.declared.Refusal.the-variants.{Equation}
-use Rattle.refusals.specs.declared.Check.{Check}
 use Rattle.refusals.specs.declared.Check.the-variants.{Passed}
-use Rattle.refusals.specs.Checks.{firstOf}
-use Rattle.refusals.proofs.First.{pass-first, first-passes, unless-passes, both-pass}
+use Rattle.refusals.proofs.First.{if-passed}
 use Rattle.algebra.specs.Path.{ValidMatrix}
 use Rattle.algebra.specs.Step.{Solves}
 use Rattle.algebra.specs.Modes.{ValidTable, carried, forwarded, onward, Forwards, BestForwarded}
@@ -22,15 +19,14 @@ use Rattle.weights.specs.declared.Component.the-variants.{Class}
 use Rattle.weights.specs.declared.Language.{Language}
 use Rattle.weights.specs.declared.Places.{Places}
 use Rattle.weights.specs.Sizes.{places, arcSum, matrixSum, tableSum}
-use Rattle.weights.specs.Weights.{Valid, Sound, language}
-use Rattle.weights.specs.Languages.{componentsOf, countCheck, limitCheck, padded, placesOf, SmallLimits}
-use Rattle.weights.proofs.Checking.{few, check-sound, placed-is}
+use Rattle.weights.specs.Weights.{Valid, language}
+use Rattle.weights.specs.Languages.{componentsOf, padded, placesOf, SmallLimits}
+use Rattle.weights.proofs.Checking.{few, placed-is}
 use Rattle.weights.proofs.Padding.{padWeight}
 use Rattle.weights.proofs.Readings.{well-read}
 use Rattle.weights.specs.Sums.{sumAt}
 use Rattle.weights.proofs.Sums.{well-sum}
 use Rattle.matrices.specs.Buffers.{cell, wordsAt, entryPlace, matrixIn, Formed}
-use Rattle.matrices.specs.Steps.{solves}
 use Rattle.matrices.proofs.Every.{solves-exactly}
 use Rattle.matrices.proofs.Malformed.{check-formed, formed-check}
 use Rattle.modes.specs.declared.Mode.{Mode}
@@ -44,13 +40,10 @@ use Rattle.tables.proofs.Padded.{PadsTo, forwarded-pad}
 use Rattle.tables.proofs.PaddedTables.{table-formed-pad, table-pads, forward-words}
 use Rattle.modes.proofs.SemiModules.{language-forwards, language-forwarded-best}
 use Rattle.tables.proofs.TableBlocks.{table-five}
-use Rattle.routes.specs.Calls.{matrixOf}
 use Rattle.routes.proofs.Bridge.{check-pad, entry-valid, entry-padded}
-use Rattle.guards.proofs.Singles.{nodes-passed}
-use Rattle.forwarding.specs.Calls.{tableOf, modeMeant, buffersChecks, argumentsChecks, forwardCheck, forwardingSum, forwardLeftBy, forwardLeft}
-use Rattle.forwarding.proofs.Order.{BuffersFormed, Ready, buffers-passed}
-use Rattle.table_guards.proofs.TableSingles.{destinations-passed}
-use Rattle.forwarding.proofs.Answers.{forward-order}
+use Rattle.guards.specs.OnNetwork.{OnNetwork, components, arcsOn}
+use Rattle.forwarding.specs.Calls.{OnTables, tableOf, routesOn, mappingOn, modeMeant, forwardCheck, forwardingSum, forwardLeft}
+use Rattle.forwarding.proofs.Order.{BuffersFormed, WellGiven, all-passed}
 use Rattle.forwarded.specs.Table.{left, EveryRouteBest, TableSays}
 use Rattle.forwarded.proofs.ReadBack.{entry-back, entry-sum}
 
@@ -67,118 +60,115 @@ small-padded zero cs h = tt
 small-padded (suc n) [] h = (omega arith, small-padded n [] tt)
 small-padded (suc n) (c ∷ cs) h = (h .0, small-padded n cs (h .1))
 
-module _ (l : Language) (n m number : ℕ) (a r s f : List ℕ) where
+module _ (T : OnTables) (f : List ℕ) where
+  open OnTables T using (network, m, routes, mapping)
+  open OnNetwork network using (n, arcs)
+
   abbrev cs : List Component
-  cs = componentsOf l
+  cs = components network
 
   abbrev mode : Mode
-  mode = modeMeant l m number
+  mode = modeMeant T
 
   -- ---- what passed checks say
 
   -- A, R and M are of the language
-  module _ (w : BuffersFormed mode cs n m a r s f) where
-    arcs-valid : ValidMatrix (language cs) n (matrixOf l n a)
-    arcs-valid = entry-valid arcSum cs n a (few l) (w .arcs)
+  module _ (w : BuffersFormed mode cs n m arcs routes mapping) where
+    arcs-valid : ValidMatrix (language cs) n (arcsOn network)
+    arcs-valid = entry-valid arcSum cs n arcs (few (network .language)) (w .in-arcs)
 
-    routes-valid : ValidMatrix (language cs) n (matrixOf l n r)
-    routes-valid = entry-valid matrixSum cs n r (few l) (w .routes)
+    routes-valid : ValidMatrix (language cs) n (routesOn T)
+    routes-valid = entry-valid matrixSum cs n routes (few (network .language)) (w .in-routes)
 
-    routes-go : GoesTo (language cs) (language (padded places cs)) (Valid cs) (padWeight places) n (matrixOf l n r) (matrixIn places n r)
-    routes-go i j hi hj = record { kind = routes-valid i j hi hj; to = entry-padded matrixSum cs n r (few l) (w .routes) i j hi hj }
+    routes-go : GoesTo (language cs) (language (padded places cs)) (Valid cs) (padWeight places) n (routesOn T) (matrixIn places n routes)
+    routes-go i j hi hj = record { kind = routes-valid i j hi hj; to = entry-padded matrixSum cs n routes (few (network .language)) (w .in-routes) i j hi hj }
 
-    mapping-pads : PadsTo places cs (few l) mode n m (tableOf l m s) (tableIn places m s)
-    mapping-pads = table-pads cs (few l) mode arcSum n m s (w .mapping)
+    mapping-pads : PadsTo places cs (few (network .language)) mode n m (mappingOn T) (tableIn places m mapping)
+    mapping-pads = table-pads cs (few (network .language)) mode arcSum n m mapping (w .in-mapping)
 
-    mapping-valid : ValidTable (language cs) (modeOf mode cs) n m (tableOf l m s)
+    mapping-valid : ValidTable (language cs) (modeOf mode cs) n m (mappingOn T)
     mapping-valid i d hi hd = mapping-pads i d hi hd .kind
 
-    sum-valid : (i d : ℕ) → i < n → d < m → ValidEntry (ValidT mode) cs (forwardingSum l mode n m r s i d)
-    sum-valid i d hi hd = forwarded-pad places cs (few l) mode n m (matrixOf l n r) (matrixIn places n r) routes-go (tableOf l m s) (tableIn places m s) mapping-pads i d hi hd .kind
+    sum-valid : (i d : ℕ) → i < n → d < m → ValidEntry (ValidT mode) cs (forwardingSum T i d)
+    sum-valid i d hi hd = forwarded-pad places cs (few (network .language)) mode n m (routesOn T) (matrixIn places n routes) routes-go (mappingOn T) (tableIn places m mapping) mapping-pads i d hi hd .kind
 
     -- the words of the sum stand for it
-    sum-reads : (i d : ℕ) → i < n → d < m → tableOf l m (tableWords n m (forwardingSum l mode n m r s)) i d ≡ forwardingSum l mode n m r s i d
+    sum-reads : (i d : ℕ) → i < n → d < m → tableOf T (tableWords n m (forwardingSum T)) i d ≡ forwardingSum T i d
     unfolding tableIn
-    sum-reads i d hi hd = ap (decodedEntry (length cs)) (table-five n m (forwardingSum l mode n m r s) i d hi hd) ∙ entry-back mode cs (forwardingSum l mode n m r s i d) (few l) (sum-valid i d hi hd)
+    sum-reads i d hi hd = ap (decodedEntry (length cs)) (table-five n m (forwardingSum T) i d hi hd) ∙ entry-back mode cs (forwardingSum T i d) (few (network .language)) (sum-valid i d hi hd)
 
-    route-sum : (c i k : ℕ) → i < n → k < n → sumAt cs c (matrixOf l n r i k) ≤ matrixSum
+    route-sum : (c i k : ℕ) → i < n → k < n → sumAt cs c (routesOn T i k) ≤ matrixSum
     unfolding cell
-    route-sum c i k hi hk = well-sum matrixSum cs c (wordsAt r (entryPlace n i k)) (well-read matrixSum cs (wordsAt r (entryPlace n i k)) (w .routes .reads i k hi hk))
+    route-sum c i k hi hk = well-sum matrixSum cs c (wordsAt routes (entryPlace n i k)) (well-read matrixSum cs (wordsAt routes (entryPlace n i k)) (w .in-routes .reads i k hi hk))
 
-    mapping-sum : (c k d : ℕ) → k < n → d < m → sumAt cs c (weightIn (tableOf l m s k d)) ≤ arcSum
+    mapping-sum : (c k d : ℕ) → k < n → d < m → sumAt cs c (weightIn (mappingOn T k d)) ≤ arcSum
     unfolding tableIn
-    mapping-sum c k d hk hd = entry-sum mode arcSum cs c (entryAt s (tablePlace m k d)) (few l) (w .mapping .reads k d hk hd)
+    mapping-sum c k d hk hd = entry-sum mode arcSum cs c (entryAt mapping (tablePlace m k d)) (few (network .language)) (w .in-mapping .reads k d hk hd)
 
     -- ---- the words of the sum, limits being 16-bit numbers
 
-    routes-padded : Formed matrixSum (padded places cs) n r
+    routes-padded : Formed matrixSum (padded places cs) n routes
     routes-padded =
-        let square = w .routes .square in
-        check-formed 2 matrixSum (padded places cs) n r square (check-pad 2 matrixSum cs n r (few l) square ∙ formed-check 2 matrixSum cs n r square (w .routes))
+        let square = w .in-routes .square in
+        check-formed 2 matrixSum (padded places cs) n routes square (check-pad 2 matrixSum cs n routes (few (network .language)) square ∙ formed-check 2 matrixSum cs n routes square (w .in-routes))
 
     abbrev sumPlaced : List Component → List ℕ
-    sumPlaced ds = tableWords n m (forwarded (language ds) (modeOf mode ds) n (matrixIn places n r) (tableIn places m s))
+    sumPlaced ds = tableWords n m (forwarded (language ds) (modeOf mode ds) n (matrixIn places n routes) (tableIn places m mapping))
 
-    sum-formed : SmallLimits 65535 cs → FormedTable mode tableSum cs n m (tableWords n m (forwardingSum l mode n m r s))
+    sum-formed : SmallLimits 65535 cs → FormedTable mode tableSum cs n m (tableWords n m (forwardingSum T))
     sum-formed h =
-        let p = placesFor l in
-        let given : GivenTable mode (placesOf p) n m r s = record {
-          limits = subst (SmallLimits 65535) (sym (placed l)) (small-padded places cs h);
-          routes = subst (λ (ds : List Component). Formed matrixSum ds n r) (sym (placed l)) routes-padded;
-          table = subst (λ (ds : List Component). FormedTable mode arcSum ds n m s) (sym (placed l)) (table-formed-pad cs (few l) mode arcSum n m s .0 (w .mapping));
+        let p = placesFor (network .language) in
+        let given : GivenTable mode (placesOf p) n m routes mapping = record {
+          limits = subst (SmallLimits 65535) (sym (placed (network .language))) (small-padded places cs h);
+          routes = subst (λ (ds : List Component). Formed matrixSum ds n routes) (sym (placed (network .language))) routes-padded;
+          table = subst (λ (ds : List Component). FormedTable mode arcSum ds n m mapping) (sym (placed (network .language))) (table-formed-pad cs (few (network .language)) mode arcSum n m mapping .0 (w .in-mapping));
         } in
-        let words : sumPlaced (placesOf p) ≡ tableWords n m (forwardingSum l mode n m r s)
-        = ap sumPlaced (placed l) ∙ forward-words cs (few l) mode n m arcSum (matrixOf l n r) (matrixIn places n r) routes-go s (w .mapping) in
+        let words : sumPlaced (placesOf p) ≡ tableWords n m (forwardingSum T)
+        = ap sumPlaced (placed (network .language)) ∙ forward-words cs (few (network .language)) mode n m arcSum (routesOn T) (matrixIn places n routes) routes-go mapping (w .in-mapping) in
         subst (FormedTable mode tableSum cs n m) words
-        (table-formed-pad cs (few l) mode tableSum n m (sumPlaced (placesOf p)) .1
-        (subst (λ (ds : List Component). FormedTable mode tableSum ds n m (sumPlaced (placesOf p))) (placed l) (places-formed mode p n m r s given)))
+        (table-formed-pad cs (few (network .language)) mode tableSum n m (sumPlaced (placesOf p)) .1
+        (subst (λ (ds : List Component). FormedTable mode tableSum ds n m (sumPlaced (placesOf p))) (placed (network .language)) (places-formed mode p n m routes mapping given)))
 
   -- ---- a done call
 
-  module _ (e : forwardCheck l n m number a r s f ≡ Passed) where
-    both : (firstOf (argumentsChecks l n m number []) ≡ Passed) × (firstOf (buffersChecks mode cs n m a r s f) ≡ Passed)
-    both = both-pass (firstOf (argumentsChecks l n m number [])) (firstOf (buffersChecks mode cs n m a r s f)) (sym (forward-order l n m number a r s f) ∙ e)
+  module _ (e : forwardCheck T f ≡ Passed) where
+    ready : WellGiven T f
+    ready = all-passed T f e .0
 
-    sound : Sound cs
-    sound = let h = first-passes (argumentsChecks l n m number []) (both .0) in check-sound l (pass-first (countCheck l ∷ limitCheck l ∷ []) (h .1 .1 .1 .0, (h .1 .1 .1 .1 .0, tt)))
-
-    ready : Ready mode cs n m a r s f
-    ready = let h = first-passes (argumentsChecks l n m number []) (both .0) in buffers-passed mode cs n m a r s f (nodes-passed n (h .0) .1) (destinations-passed m (h .1 .0)) (both .1)
-
-    holds : forwardLeft l n m number a r s f ≡ tableWords n m (forwardingSum l mode n m r s)
-    holds = ap (λ (c : Check). forwardLeftBy c l mode n m r s f) e
+    holds : forwardLeft T f ≡ tableWords n m (forwardingSum T)
+    holds = if-passed (tableWords n m (forwardingSum T)) f e
 
     -- the buffer holds the forwarding sum
-    pub forward-sum : (i d : ℕ) → i < n → d < m → left l n m number a r s f i d ≡ forwardingSum l mode n m r s i d
-    forward-sum i d hi hd = ap (λ (ws : List ℕ). tableOf l m ws i d) holds ∙ sum-reads (ready .formed) i d hi hd
+    pub forward-sum : (i d : ℕ) → i < n → d < m → left T f i d ≡ forwardingSum T i d
+    forward-sum i d hi hd = ap (λ (ws : List ℕ). tableOf T ws i d) holds ∙ sum-reads (ready .formed) i d hi hd
 
-    solved : Solves (language cs) n (matrixOf l n a) (matrixOf l n r)
-    solved = solves-exactly cs n (matrixOf l n a) (matrixOf l n r) .0 (unless-passes (solves cs n (matrixOf l n a) (matrixOf l n r)) (Equation 2 0) (ready .solved))
+    solved : Solves (language cs) n (arcsOn network) (routesOn T)
+    solved = solves-exactly cs n (arcsOn network) (routesOn T) .0 (all-passed T f e .1)
 
     -- F = (A applied to F) best M
-    pub forward-equation : Forwards (language cs) (modeOf mode cs) n m (matrixOf l n a) (tableOf l m s) (left l n m number a r s f)
+    pub forward-equation : Forwards (language cs) (modeOf mode cs) n m (arcsOn network) (mappingOn T) (left T f)
     unfolding onward
     forward-equation i d hi hd =
         forward-sum i d hi hd
-        ∙ language-forwards mode cs sound (ready .laws .law-D) (ready .laws .law-U) (ready .laws .law-C) n m (matrixOf l n a) (arcs-valid (ready .formed)) (tableOf l m s) (mapping-valid (ready .formed))
-        (matrixOf l n r) (routes-valid (ready .formed)) solved i d hi hd
-        ∙ bestOf-same (modeOf mode cs .entries) n (carried (language cs) (modeOf mode cs) (matrixOf l n a) (forwardingSum l mode n m r s) i d) (carried (language cs) (modeOf mode cs) (matrixOf l n a) (left l n m number a r s f) i d) (tableOf l m s i d)
-        (λ k hk. ap (modeOf mode cs .apply (matrixOf l n a i k)) (sym (forward-sum k d hk hd)))
+        ∙ language-forwards mode cs (ready .sound) (ready .law-D) (ready .law-U) (ready .law-C) n m (arcsOn network) (arcs-valid (ready .formed)) (mappingOn T) (mapping-valid (ready .formed))
+        (routesOn T) (routes-valid (ready .formed)) solved i d hi hd
+        ∙ bestOf-same (modeOf mode cs .entries) n (carried (language cs) (modeOf mode cs) (arcsOn network) (forwardingSum T) i d) (carried (language cs) (modeOf mode cs) (arcsOn network) (left T f) i d) (mappingOn T i d)
+        (λ k hk. ap (modeOf mode cs .apply (arcsOn network i k)) (sym (forward-sum k d hk hd)))
 
     -- every sum stored is at most 1,048,560
-    pub forward-sums : (c i d : ℕ) → i < n → d < m → sumAt cs c (weightIn (left l n m number a r s f i d)) ≤ tableSum
+    pub forward-sums : (c i d : ℕ) → i < n → d < m → sumAt cs c (weightIn (left T f i d)) ≤ tableSum
     forward-sums c i d hi hd = subst (λ (x : Entry). sumAt cs c (weightIn x) ≤ tableSum) (sym (forward-sum i d hi hd))
-        (forwarded-sum cs c mode n m (matrixOf l n r) (tableOf l m s) (route-sum (ready .formed) c) (mapping-sum (ready .formed) c) i d hi hd)
+        (forwarded-sum cs c mode n m (routesOn T) (mappingOn T) (route-sum (ready .formed) c) (mapping-sum (ready .formed) c) i d hi hd)
 
     -- where R holds the best weights, F does
-    pub forward-best : EveryRouteBest l n a r → (i d : ℕ) → i < n → d < m
-        → BestForwarded (language cs) (modeOf mode cs) n (matrixOf l n a) (tableOf l m s) i d (left l n m number a r s f i d)
+    pub forward-best : EveryRouteBest network routes → (i d : ℕ) → i < n → d < m
+        → BestForwarded (language cs) (modeOf mode cs) n (arcsOn network) (mappingOn T) i d (left T f i d)
     forward-best b i d hi hd =
-        subst (BestForwarded (language cs) (modeOf mode cs) n (matrixOf l n a) (tableOf l m s) i d) (sym (forward-sum i d hi hd))
-        (language-forwarded-best mode cs sound (ready .laws .law-D) (ready .laws .law-U) (ready .laws .law-C) n m (matrixOf l n a) (arcs-valid (ready .formed)) (tableOf l m s) (mapping-valid (ready .formed)) (matrixOf l n r) b i d hi hd)
+        subst (BestForwarded (language cs) (modeOf mode cs) n (arcsOn network) (mappingOn T) i d) (sym (forward-sum i d hi hd))
+        (language-forwarded-best mode cs (ready .sound) (ready .law-D) (ready .law-U) (ready .law-C) n m (arcsOn network) (arcs-valid (ready .formed)) (mappingOn T) (mapping-valid (ready .formed)) (routesOn T) b i d hi hd)
 
     -- all of it
-    pub forward-says : SmallLimits 65535 cs → TableSays l n m number a r s f
+    pub forward-says : SmallLimits 65535 cs → TableSays T f
     forward-says h = record {
       sum = forward-sum;
       equation = forward-equation;

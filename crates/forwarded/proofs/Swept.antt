@@ -3,22 +3,25 @@ use Prim.Native.Nat.{ℕ, suc, _≤_}
 use mathlib.Core.Path.{_≡_}
 use mathlib.Core.List.{List, map}
 use Rattle.refusals.specs.declared.Check.the-variants.{Passed}
-use Rattle.refusals.specs.Checks.{Pass}
+use Rattle.refusals.specs.Cases.{NoneDue, firstCases}
 use Rattle.algebra.specs.Step.{Stretches}
-use Rattle.weights.specs.declared.Language.{Language}
+use Rattle.guards.specs.OnNetwork.{OnNetwork}
 use Rattle.routes.specs.Calls.{stepOf}
 use Rattle.histories.specs.History.{HistoryBegun, held, ran}
 use Rattle.histories.proofs.Histories.{history-demand-3}
-use Rattle.forwarding.specs.Calls.{forwardCheck}
+use Rattle.forwarding.specs.Calls.{OnTables, onTables, forwardCases, forwardCheck}
 use Rattle.forwarded.specs.Table.{EveryRouteBest}
-use Rattle.forwarded.specs.Exact.{beforeEquation}
 use Rattle.forwarded.proofs.Exact.{best-done}
 
-module _ (l : Language) (n : ℕ) (a r : List ℕ) (begun : HistoryBegun l n a r) (lists : List (List ℕ)) (k : ℕ) (enough : n ≤ suc k) (swept : Stretches n k (map stepOf (ran l n a r lists))) where
+module _ (N : OnNetwork) (r : List ℕ) (begun : HistoryBegun N r) (lists : List (List ℕ)) (k : ℕ) (enough : N .n ≤ suc k) (swept : Stretches (N .n) k (map stepOf (ran N r lists))) where
   -- the buffer of the history holds the best weights ..
-  pub swept-holds-best : EveryRouteBest l n a (held l n a r lists)
-  swept-holds-best i j hi hj = history-demand-3 l n a r begun lists .swept k enough swept j hj i hi
+  pub swept-holds-best : EveryRouteBest N (held N r lists)
+  swept-holds-best i j hi hj = history-demand-3 N r begun lists .swept k enough swept j hj i hi
 
-  -- .. so a forwarding call on it is done where all checks but 12 pass
-  pub swept-forwards : (m number : ℕ) (s f : List ℕ) → Pass (beforeEquation l n m number a (held l n a r lists) s f) → forwardCheck l n m number a (held l n a r lists) s f ≡ Passed
-  swept-forwards m number s f = best-done l n m number a (held l n a r lists) s f swept-holds-best
+  -- a forwarding call on it
+  abbrev onHeld : ℕ → ℕ → List ℕ → OnTables
+  onHeld m mode mapping = onTables N m mode (held N r lists) mapping
+
+  -- .. so a forwarding call on it is done where nothing is due in the fifteen cases before 12
+  pub swept-forwards : (m mode : ℕ) (mapping f : List ℕ) → NoneDue (firstCases 15 (forwardCases (onHeld m mode mapping) f)) → forwardCheck (onHeld m mode mapping) f ≡ Passed
+  swept-forwards m mode mapping f = best-done (onHeld m mode mapping) f swept-holds-best

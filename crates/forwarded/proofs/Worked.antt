@@ -13,25 +13,25 @@ use Rattle.matrices.specs.Buffers.{blocks, matrixWords, cell, firstMalformed}
 use Rattle.matrices.specs.Steps.{every}
 use Rattle.tables.specs.Tables.{wordsOf, tableWords, tableIn}
 use Rattle.forwarding.specs.Calls.{forwardCheck, forwardLeft}
-use Rattle.histories.specs.Examples.{distance, distanceLanguage}
+use Rattle.histories.specs.Examples.{distance}
 use Rattle.forwarded.specs.Figures.{tabled, valueWithT}
-use Rattle.forwarded.specs.Printed.{printedArcs, printedRoutes, printedMapping}
+use Rattle.forwarded.specs.Printed.{printedRoutes, printedIn}
 
 -- the printed F lines, in mode 3
 pub printed-call :
-    (checkTold (forwardCheck distanceLanguage 3 1 3 printedArcs printedRoutes printedMapping (replicate 15 0)) ≡ done)
-    × (forwardLeft distanceLanguage 3 1 3 printedArcs printedRoutes printedMapping (replicate 15 0) ≡ tableWords 3 1 (tabled ((valueWithT 5 4 ∷ []) ∷ (valueWithT 3 4 ∷ []) ∷ (valueWithT 0 4 ∷ []) ∷ [])))
+    (checkTold (forwardCheck (printedIn 3 printedRoutes) (replicate 15 0)) ≡ done)
+    × (forwardLeft (printedIn 3 printedRoutes) (replicate 15 0) ≡ tableWords 3 1 (tabled ((valueWithT 5 4 ∷ []) ∷ (valueWithT 3 4 ∷ []) ∷ (valueWithT 0 4 ∷ []) ∷ [])))
 unfolding blocks words wordsOf firstMalformed cell tableIn every routed forwarded bestOf pick
 printed-call = (refl, refl)
 
 -- P6, in mode 2: F(0,0) is 2 with t 7
 pub P6-call :
-    (checkTold (forwardCheck distanceLanguage 3 1 2 printedArcs printedRoutes printedMapping (replicate 15 0)) ≡ done)
-    × (forwardLeft distanceLanguage 3 1 2 printedArcs printedRoutes printedMapping (replicate 15 0) ≡ tableWords 3 1 (tabled ((valueWithT 2 7 ∷ []) ∷ (valueWithT 0 7 ∷ []) ∷ (valueWithT 0 4 ∷ []) ∷ [])))
+    (checkTold (forwardCheck (printedIn 2 printedRoutes) (replicate 15 0)) ≡ done)
+    × (forwardLeft (printedIn 2 printedRoutes) (replicate 15 0) ≡ tableWords 3 1 (tabled ((valueWithT 2 7 ∷ []) ∷ (valueWithT 0 7 ∷ []) ∷ (valueWithT 0 4 ∷ []) ∷ [])))
 unfolding blocks words wordsOf firstMalformed cell tableIn every routed forwarded bestOf pick
 P6-call = (refl, refl)
 
 -- with the fresh matrix for R, which does not satisfy the equation: 12
-pub fresh-call : checkTold (forwardCheck distanceLanguage 3 1 3 printedArcs (matrixWords 3 (fresh (language distance))) printedMapping (replicate 15 0)) ≡ row 12 2 0
+pub fresh-call : checkTold (forwardCheck (printedIn 3 (matrixWords 3 (fresh (language distance)))) (replicate 15 0)) ≡ row 12 2 0
 unfolding blocks words wordsOf firstMalformed cell tableIn every routed forwarded bestOf pick
 fresh-call = refl

@@ -1,4 +1,3 @@
 pub mod Table
-pub mod Exact
 pub mod Figures
 pub mod Printed

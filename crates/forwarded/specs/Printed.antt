@@ -6,7 +6,9 @@ use Rattle.weights.specs.Weights.{none}
 use Rattle.matrices.specs.Buffers.{matrixWords}
 use Rattle.modes.specs.Entries.{empty}
 use Rattle.tables.specs.Tables.{tableWords}
-use Rattle.histories.specs.Examples.{written}
+use Rattle.guards.specs.OnNetwork.{onNetwork}
+use Rattle.forwarding.specs.Calls.{OnTables, onTables}
+use Rattle.histories.specs.Examples.{written, distanceLanguage}
 use Rattle.forwarded.specs.Figures.{tabled, ofValue, valueWithT}
 
 -- its arcs
@@ -20,3 +22,7 @@ printedRoutes = matrixWords 3 (written ((ofValue 0 ∷ ofValue 2 ∷ ofValue 5 �
 -- its attachments
 abbrev pub printedMapping : List ℕ
 printedMapping = tableWords 3 1 (tabled ((empty ∷ []) ∷ (valueWithT 0 7 ∷ []) ∷ (valueWithT 0 4 ∷ []) ∷ []))
+
+-- the call on them in a mode and with these routes: dist alone, three nodes, one destination
+abbrev pub printedIn : ℕ → List ℕ → OnTables
+printedIn mode routes = onTables (onNetwork distanceLanguage 3 printedArcs) 1 mode routes printedMapping

@@ -1,184 +1,233 @@
--- The checks of forwarding, group by group: what one after another gives, and what is known once all have passed.
+-- The checks of forwarding: which refusal is given, and what is known once all have passed.
 use Prim.Native.Nat.{ℕ, _≤_}
-use mathlib.Core.Path.{_≡_, refl, sym, ap, subst, _∙_}
-use mathlib.Core.Bool.{Bool, true}
-use mathlib.Core.List.{List, [], _∷_, _++_}
-use native.Mathlib.Omega.{arith}
+use mathlib.Core.Path.{_≡_, sym, ap, ap₂, subst, _∙_}
+use mathlib.Core.Bool.{Bool, true, not, _||_}
+use mathlib.Core.List.{List, [], _∷_}
 use lib.ListN.{length}
 use Rattle.refusals.specs.declared.Refusal.{Refusal}
-use Rattle.refusals.specs.declared.Refusal.the-variants.{Size, Law, Equation}
+use Rattle.refusals.specs.declared.Refusal.the-variants.{Law, Equation}
 use Rattle.refusals.specs.declared.Check.{Check}
 use Rattle.refusals.specs.declared.Check.the-variants.{Passed, Refused}
 use Rattle.refusals.specs.Checks.{unless, orElse, firstOf}
-use Rattle.refusals.proofs.First.{unless-passes, both-pass}
+use Rattle.refusals.specs.Cases.{Case, checksOf, checkOf, firstCases}
+use Rattle.refusals.proofs.First.{unless-passes, both-pass, or-passed, stops, goes-on, or-else-cong, or-else-assoc, first-append, first-passes, pass-first}
+use Rattle.refusals.proofs.Cases.{check-append}
+use Rattle.algebra.proofs.Embedding.{GoesTo}
 use Rattle.weights.specs.declared.Component.{Component}
-use Rattle.weights.specs.declared.Language.{Language}
 use Rattle.weights.specs.declared.Places.{Places}
 use Rattle.weights.specs.Sizes.{places, arcSum, matrixSum}
-use Rattle.weights.specs.Weights.{Sound}
+use Rattle.weights.specs.Weights.{Valid, Sound, language}
 use Rattle.weights.specs.Laws.{testD, testU, testC}
-use Rattle.weights.specs.Languages.{componentsOf, languageCheck, padded, placesOf, SmallLimits}
-use Rattle.weights.proofs.Padding.{sound-pad}
-use Rattle.weights.proofs.Checking.{check-sound}
+use Rattle.weights.specs.Languages.{countCase, limitCase, padded, placesOf}
+use Rattle.weights.proofs.Padding.{padWeight, testC-pad}
+use Rattle.weights.proofs.Checking.{few, check-sound}
 use Rattle.matrices.specs.Buffers.{matrixIn, Square, Formed}
 use Rattle.matrices.specs.Steps.{solves, Given}
 use Rattle.matrices.proofs.Malformed.{check-formed}
 use Rattle.modes.specs.declared.Mode.{Mode}
-use Rattle.modes.specs.declared.Chosen.the-variants.{Fits, Unfit}
+use Rattle.modes.specs.declared.Chosen.{Chosen}
 use Rattle.modes.specs.Entries.{modeFor, needsC}
 use Rattle.tables.specs.Tables.{Sized, FormedTable}
 use Rattle.tables.specs.Parts.{GivenTable}
 use Rattle.tables.proofs.MalformedEntries as entries
-use Rattle.guards.specs.Checks.{nodesCheck, lengthCheck, lawDCheck, lawUCheck, arcsCheck, routesCheck}
-use Rattle.routes.proofs.Order.{stops, goes-on, last}
+use Rattle.tables.proofs.PaddedTables.{table-check-pad}
+use Rattle.guards.specs.Checks.{mostNodes, nodesCase, lengthCase, arcsCase, routesCase}
+use Rattle.guards.specs.OnNetwork.{OnNetwork, components, arcsOn}
+use Rattle.guards.proofs.Singles as singles
+use Rattle.guards.specs.Entrance.{lengthMeasured, entranceCheck, Entered}
 use Rattle.guards.proofs.Singles.{nodes-passed, length-passed}
-use Rattle.table_guards.specs.Checks.{destinationsCheck, chosenCheck, tableLengthCheck, lawCCheck, mappingCheck, solvesCheck}
-use Rattle.forwarding.specs.Calls.{buffersChecks, argumentsChecks}
-use Rattle.forwarding.specs.Ready.{InPlaces, Means}
-use Rattle.table_guards.proofs.TableSingles.{destinations-passed, table-length-passed, law-C-passed}
+use Rattle.guards.proofs.Entering.{entrance-refuses, entrance-leaves, sizes-passed, lengths-passed}
+use Rattle.table_guards.specs.Checks.{mostDestinations, chosenCheck, destinationsCase, modeCase, tableLengthCase, lawCCheck, mappingCase, solvesCase, lawCCase, tableLengthMeasured}
+use Rattle.table_guards.proofs.TableSingles.{destinations-passed, table-length-passed, law-C-passed, table-measured}
+use Rattle.routes.proofs.Order.{placed-sound, arcs-same, routes-same, two-checks}
+use Rattle.routes.proofs.Bridge.{buffer-goes, solves-go}
+use Rattle.forwarding.specs.Calls.{OnTables, modeMeant, routesOn, forwardCases, forwardCheck}
+use Rattle.forwarding.specs.Ready.{Measured, contentsCheck}
 
--- ---- groups of checks
-
--- a group, and then the rest
-pub group : (cs ds : List Check) → firstOf (cs ++ ds) ≡ orElse (firstOf cs) (firstOf ds)
-group [] ds = refl
-group (Passed ∷ cs) ds = group cs ds
-group (Refused x ∷ cs) ds = refl
-
--- C after D and U
-pub two-laws-refuse : (mode : Mode) (cs : List Component) {x : Refusal} → firstOf (lawDCheck cs ∷ lawUCheck cs ∷ []) ≡ Refused x → Refused x ≡ firstOf (lawDCheck cs ∷ lawUCheck cs ∷ lawCCheck mode cs ∷ [])
-two-laws-refuse mode cs e = sym (group (lawDCheck cs ∷ lawUCheck cs ∷ []) (lawCCheck mode cs ∷ []) ∙ stops _ e)
-
-pub third-law : (mode : Mode) (cs : List Component) (c : Check) → firstOf (lawDCheck cs ∷ lawUCheck cs ∷ []) ≡ Passed → c ≡ lawCCheck mode cs → c ≡ firstOf (lawDCheck cs ∷ lawUCheck cs ∷ lawCCheck mode cs ∷ [])
-third-law mode cs c e q = sym (group (lawDCheck cs ∷ lawUCheck cs ∷ []) (lawCCheck mode cs ∷ []) ∙ goes-on e (last q))
-
-pub solves-told : (cs : List Component) (n : ℕ) (a r : List ℕ) (b : Bool) → b ≡ solves cs n (matrixIn (length cs) n a) (matrixIn (length cs) n r) → unless b (Equation 2 0) ≡ solvesCheck cs n a r
+-- what the code's test of the equation tells
+pub solves-told : (cs : List Component) (n : ℕ) (a r : List ℕ) (b : Bool) → b ≡ solves cs n (matrixIn (length cs) n a) (matrixIn (length cs) n r) → unless b (Equation 2 0) ≡ solvesCase cs n a r .check
 solves-told cs n a r b e = ap (λ (x : Bool). unless x (Equation 2 0)) e
 
--- ---- the arguments
+-- ---- A, R and M, once they have their lengths
 
-module _ (l : Language) (n m number : ℕ) where
-  abbrev All : Check
-  All = firstOf (argumentsChecks l n m number [])
+-- no entry is malformed
+pub record BuffersFormed (mode : Mode) (cs : List Component) (n m : ℕ) (a r mapping : List ℕ) : Type 0 where
+  pub in-arcs : Formed arcSum cs n a
+  pub in-routes : Formed matrixSum cs n r
+  pub in-mapping : FormedTable mode arcSum cs n m mapping
 
-  pub by-nodes : {x : Refusal} → nodesCheck n ≡ Refused x → All ≡ Refused x
-  by-nodes e = stops _ e
+module _ (mode : Mode) (cs : List Component) (n m : ℕ) (a r mapping : List ℕ) where
+  -- all of the contents but 12
+  abbrev firsts : List Check
+  firsts = lawCCheck mode cs ∷ arcsCase cs n a .check ∷ routesCase cs n r .check ∷ mappingCase mode cs n m mapping .check ∷ []
 
-  module _ (en : nodesCheck n ≡ Passed) where
-    pub by-destinations : {x : Refusal} → destinationsCheck m ≡ Refused x → All ≡ Refused x
-    by-destinations e = goes-on en (stops _ e)
+  -- .. and 12 after it
+  solves-last : contentsCheck mode cs n m a r mapping ≡ orElse (firstOf firsts) (solvesCase cs n a r .check)
+  solves-last = first-append firsts (solvesCase cs n a r .check ∷ []) ∙ ap (orElse (firstOf firsts)) (or-passed (solvesCase cs n a r .check))
 
-    module _ (ed : destinationsCheck m ≡ Passed) where
-      pub by-mode : modeFor (componentsOf l) m number ≡ Unfit → All ≡ Refused (Size 3 0)
-      by-mode e = goes-on en (goes-on ed (stops _ (ap chosenCheck e)))
+  firsts-formed : Square n a → Square n r → Sized n m mapping → firstOf firsts ≡ Passed → BuffersFormed mode cs n m a r mapping
+  firsts-formed qa qr qm e =
+      let (ec, (ea, (er, (em, u)))) = first-passes firsts e in
+      record { in-arcs = check-formed 1 arcSum cs n a qa ea; in-routes = check-formed 2 matrixSum cs n r qr er; in-mapping = entries.check-formed 3 mode arcSum cs n m mapping qm em }
 
-      module _ (mode : Mode) (em : modeFor (componentsOf l) m number ≡ Fits mode) where
-        pub by-language : {x : Refusal} → languageCheck l ≡ Refused x → All ≡ Refused x
-        by-language e = goes-on en (goes-on ed (goes-on (ap chosenCheck em) e))
+  -- ---- what the code finds after the entrance
 
-        pub arguments-pass : (p : Places) → languageCheck l ≡ Passed → placesOf p ≡ padded places (componentsOf l) → SmallLimits 65535 (placesOf p)
-            → (All ≡ Passed) × Means l m number p mode × InPlaces n m (placesOf p)
-        arguments-pass p el placed small = (
-          goes-on en (goes-on ed (goes-on (ap chosenCheck em) el)),
-          record { placed = placed; chosen = em },
-          record {
-            few = nodes-passed n en .1;
-            few-destinations = destinations-passed m ed;
-            limits = small;
-            sound = subst Sound (sym placed) (sound-pad places (componentsOf l) (check-sound l el));
-          },
-        )
+  module _ (g : Measured cs n m a r mapping) {by-C by-arcs by-routes by-mapping by-tables by-entries found : Check}
+      (qC : by-C ≡ lawCCheck mode cs) (qa : by-arcs ≡ arcsCase cs n a .check) (qr : by-routes ≡ routesCase cs n r .check) (qm : by-mapping ≡ mappingCase mode cs n m mapping .check)
+      (qt : by-tables ≡ orElse by-routes by-mapping) (qe : by-entries ≡ orElse by-arcs by-tables) (q : found ≡ orElse by-C by-entries) where
+    found-firsts : found ≡ firstOf firsts
+    found-firsts = q ∙ ap₂ orElse qC (qe ∙ ap₂ orElse qa (qt ∙ two-checks (routesCase cs n r .check) (mappingCase mode cs n m mapping .check) qr qm))
 
--- ---- the buffers
+    pub firsts-refuse : {x : Refusal} → found ≡ Refused x → Refused x ≡ contentsCheck mode cs n m a r mapping
+    firsts-refuse e = sym (solves-last ∙ stops (solvesCase cs n a r .check) (sym found-firsts ∙ e))
 
-module _ (mode : Mode) (cs : List Component) (n m : ℕ) (a r s f : List ℕ) where
-  abbrev pub Lengths : List Check
-  Lengths = lengthCheck 1 n a ∷ lengthCheck 2 n r ∷ tableLengthCheck 3 n m s ∷ tableLengthCheck 4 n m f ∷ []
+    pub equation-last : {c : Check} → found ≡ Passed → c ≡ solvesCase cs n a r .check → c ≡ contentsCheck mode cs n m a r mapping
+    equation-last e s = sym (solves-last ∙ goes-on (sym found-firsts ∙ e) (sym s))
 
-  abbrev pub Laws : List Check
-  Laws = lawDCheck cs ∷ lawUCheck cs ∷ lawCCheck mode cs ∷ []
+    pub matrices-given : found ≡ Passed → Given cs n a r
+    matrices-given e =
+        let w = firsts-formed (g .in-arcs) (g .in-routes) (g .in-mapping) (sym found-firsts ∙ e) in
+        record { limits = g .limits; sound = g .sound; law-D = g .law-D; law-U = g .law-U; arcs = w .in-arcs; routes = w .in-routes }
 
-  abbrev pub Entries : List Check
-  Entries = arcsCheck cs n a ∷ routesCheck cs n r ∷ mappingCheck mode cs n m s ∷ []
+-- ---- the call
 
-  pub buffers-order : firstOf (buffersChecks mode cs n m a r s f) ≡ orElse (firstOf Lengths) (orElse (firstOf Laws) (orElse (firstOf Entries) (firstOf (solvesCheck cs n a r ∷ []))))
-  buffers-order =
-      group Lengths (Laws ++ Entries ++ solvesCheck cs n a r ∷ [])
-      ∙ ap (orElse (firstOf Lengths)) (group Laws (Entries ++ solvesCheck cs n a r ∷ []) ∙ ap (orElse (firstOf Laws)) (group Entries (solvesCheck cs n a r ∷ [])))
+module _ (T : OnTables) (f : List ℕ) where
+  open OnTables T using (network, m, routes, mapping)
+  open OnNetwork network using (n, arcs)
 
-  pub by-lengths : {x : Refusal} → firstOf Lengths ≡ Refused x → firstOf (buffersChecks mode cs n m a r s f) ≡ Refused x
-  by-lengths e = buffers-order ∙ stops _ e
+  abbrev cs : List Component
+  cs = components network
 
-  module _ (eb : firstOf Lengths ≡ Passed) where
-    pub by-laws : {x : Refusal} → firstOf Laws ≡ Refused x → firstOf (buffersChecks mode cs n m a r s f) ≡ Refused x
-    by-laws e = buffers-order ∙ goes-on eb (stops _ e)
+  abbrev sizes : List Case
+  sizes = nodesCase n ∷ destinationsCase m ∷ modeCase cs m (T .mode) ∷ []
 
-    module _ (eu : firstOf Laws ≡ Passed) where
-      pub by-entries : {x : Refusal} → firstOf Entries ≡ Refused x → firstOf (buffersChecks mode cs n m a r s f) ≡ Refused x
-      by-entries e = buffers-order ∙ goes-on eb (goes-on eu (stops _ e))
+  abbrev lengths : List Case
+  lengths = lengthCase 1 n arcs ∷ lengthCase 2 n routes ∷ tableLengthCase 3 n m mapping ∷ tableLengthCase 4 n m f ∷ []
 
-      pub by-equation : (c : Check) → firstOf Entries ≡ Passed → c ≡ solvesCheck cs n a r → firstOf (buffersChecks mode cs n m a r s f) ≡ c
-      by-equation c ef e = buffers-order ∙ goes-on eb (goes-on eu (goes-on ef (last e)))
+  abbrev contents : List Case
+  contents = lawCCase (T .mode) (modeMeant T) cs ∷ arcsCase cs n arcs ∷ routesCase cs n routes ∷ mappingCase (modeMeant T) cs n m mapping ∷ solvesCase cs n arcs routes ∷ []
+
+  -- there are at most 16 nodes and 32 destinations where the sizes pass
+  few-of-both : checkOf sizes ≡ Passed → (n ≤ mostNodes) × (m ≤ mostDestinations)
+  few-of-both e = let (en, (ed, u)) = first-passes (checksOf sizes) e in (nodes-passed n en .1, destinations-passed m ed)
+
+  -- what the code's checks of the sizes and of the lengths give
+  pub record Found (sized measured : Check) : Type 0 where
+    pub as-sizes : sized ≡ checkOf sizes
+    pub as-lengths : checkOf sizes ≡ Passed → measured ≡ checkOf lengths
+
+  pub found : {chosen : Chosen} {by-n by-m by-mode others sized by-arcs by-routes by-mapping by-table matrices tables measured : Check}
+      → chosen ≡ modeFor cs m (T .mode) → by-n ≡ nodesCase n .check → by-m ≡ destinationsCase m .check → by-mode ≡ chosenCheck chosen → others ≡ orElse by-m by-mode → sized ≡ orElse by-n others
+      → by-arcs ≡ lengthMeasured 1 n arcs → by-routes ≡ lengthMeasured 2 n routes → matrices ≡ orElse by-arcs by-routes
+      → by-mapping ≡ tableLengthMeasured 3 n m mapping → by-table ≡ tableLengthMeasured 4 n m f → tables ≡ orElse by-mapping by-table
+      → measured ≡ orElse matrices tables → Found sized measured
+  found qc qn qm qk qo qs la lr lab lm lt lmt ll = record {
+    as-sizes = qs ∙ ap₂ orElse qn (qo ∙ two-checks (destinationsCase m .check) (modeCase cs m (T .mode) .check) qm (qk ∙ ap chosenCheck qc));
+    as-lengths = λ e.
+        let h = few-of-both e in
+        ll ∙ ap₂ orElse (lab ∙ ap₂ orElse (singles.measured 1 n arcs (h .0) la) (singles.measured 2 n routes (h .0) lr)) (lmt ∙ two-checks (tableLengthCase 3 n m mapping .check) (tableLengthCase 4 n m f .check) (table-measured 3 n m mapping h lm) (table-measured 4 n m f h lt))
+        ∙ or-else-assoc (lengthCase 1 n arcs .check) (lengthCase 2 n routes .check) (checkOf (tableLengthCase 3 n m mapping ∷ tableLengthCase 4 n m f ∷ []));
+  }
 
   -- what the buffers are once their lengths pass
   pub record Long : Type 0 where
-    pub arcs : Square n a
-    pub routes : Square n r
-    pub mapping : Sized n m s
-    pub table : Sized n m f
+    pub in-arcs : Square n arcs
+    pub in-routes : Square n routes
+    pub in-mapping : Sized n m mapping
+    pub in-table : Sized n m f
 
-  pub lengths-passed : n ≤ 16 → m ≤ 32 → firstOf Lengths ≡ Passed → Long
-  lengths-passed h k e =
-      let (ea, e1) = both-pass (lengthCheck 1 n a) _ e in
-      let (er, e2) = both-pass (lengthCheck 2 n r) _ e1 in
-      let (es, e3) = both-pass (tableLengthCheck 3 n m s) _ e2 in
-      let (ef, e4) = both-pass (tableLengthCheck 4 n m f) _ e3 in
-      record { arcs = length-passed 1 n a h ea; routes = length-passed 2 n r h er; mapping = table-length-passed 3 n m s h k es; table = table-length-passed 4 n m f h k ef }
+  long-enough : (n ≤ mostNodes) × (m ≤ mostDestinations) → checkOf lengths ≡ Passed → Long
+  long-enough (h, k) e =
+      let (ea, (er, (em, (et, u)))) = first-passes (checksOf lengths) e in
+      record { in-arcs = length-passed 1 n arcs h ea; in-routes = length-passed 2 n routes h er; in-mapping = table-length-passed 3 n m mapping h k em; in-table = table-length-passed 4 n m f h k et }
 
-  pub record Lawful : Type 0 where
+  module _ {sized measured : Check} (q : Found sized measured) where
+    pub forward-stops : {x : Refusal} → entranceCheck (network .language) sized measured ≡ Refused x → forwardCheck T f ≡ Refused x
+    forward-stops e = entrance-refuses (network .language) sizes lengths contents sized measured (q .as-sizes) (q .as-lengths) e
+
+    module _ (p : Places) (o : Entered (network .language) sized measured p) where
+      pub long : Long
+      long =
+          long-enough (few-of-both (sizes-passed (network .language) sizes lengths contents sized measured (q .as-sizes) (q .as-lengths) o))
+          (lengths-passed (network .language) sizes lengths contents sized measured (q .as-sizes) (q .as-lengths) o)
+
+      pub forward-measured : Measured (placesOf p) n m arcs routes mapping
+      forward-measured =
+          let s = o .in-places in
+          record { limits = s .limits; sound = s .sound; law-D = s .law-D; law-U = s .law-U; in-arcs = long .in-arcs; in-routes = long .in-routes; in-mapping = long .in-mapping }
+
+      -- ---- the contents, in the places and in the language
+
+      module _ {mode : Mode} (meant : mode ≡ modeMeant T) where
+        buffer-same : (cap : ℕ) (s : List ℕ) → Formed cap (placesOf p) n s → GoesTo (language cs) (language (placesOf p)) (Valid cs) (padWeight places) n (matrixIn (length cs) n s) (matrixIn places n s)
+        buffer-same cap s w = buffer-goes cs p (few (network .language)) (o .in-places .placed) (placed-sound (network .language) p (o .in-places)) n arcs cap s w
+
+        law-C-same : lawCCheck mode (placesOf p) ≡ lawCCheck mode cs
+        law-C-same = ap (λ (b : Bool). unless (not (needsC mode) || b) (Law 3 0)) (ap testC (o .in-places .placed) ∙ testC-pad places cs (few (network .language)))
+
+        mapping-same : mappingCase mode (placesOf p) n m mapping .check ≡ mappingCase mode cs n m mapping .check
+        mapping-same = ap (λ (ds : List Component). mappingCase mode ds n m mapping .check) (o .in-places .placed) ∙ table-check-pad 3 mode arcSum cs n m mapping (few (network .language)) (long .in-mapping)
+
+        solves-same : Formed arcSum (placesOf p) n arcs → Formed matrixSum (placesOf p) n routes → solvesCase (placesOf p) n arcs routes .check ≡ solvesCase cs n arcs routes .check
+        solves-same wa wr =
+            ap (λ (b : Bool). unless b (Equation 2 0))
+            (solves-go cs p (few (network .language)) (o .in-places .placed) (placed-sound (network .language) p (o .in-places)) n arcs (arcsOn network) (matrixIn places n arcs) (buffer-same arcSum arcs wa) (routesOn T) (matrixIn places n routes) (buffer-same matrixSum routes wr))
+
+        contents-same : contentsCheck mode (placesOf p) n m arcs routes mapping ≡ contentsCheck mode cs n m arcs routes mapping
+        contents-same =
+            let arcs-alike = arcs-same (network .language) p (o .in-places) n arcs (long .in-arcs) in
+            let routes-alike = routes-same (network .language) p (o .in-places) n routes (long .in-routes) in
+            or-else-cong _ _ law-C-same (λ ec. or-else-cong _ _ arcs-alike (λ ea. or-else-cong _ _ routes-alike (λ er. or-else-cong _ _ mapping-same (λ em.
+            ap (λ (c : Check). orElse c Passed) (solves-same (check-formed 1 arcSum (placesOf p) n arcs (long .in-arcs) (arcs-alike ∙ ea)) (check-formed 2 matrixSum (placesOf p) n routes (long .in-routes) (routes-alike ∙ er)))))))
+
+        module _ {contained : Check} (qc : contained ≡ contentsCheck mode (placesOf p) n m arcs routes mapping) where
+          pub contents-then : {c : Check} → contained ≡ c → forwardCheck T f ≡ c
+          contents-then e =
+              entrance-leaves (network .language) sizes lengths contents sized measured (q .as-sizes) (q .as-lengths) o
+              (ap (λ (k : Mode). contentsCheck k cs n m arcs routes mapping) (sym meant) ∙ sym contents-same ∙ sym qc ∙ e)
+
+          module _ (e : contained ≡ Passed) where
+            placed-formed : BuffersFormed mode (placesOf p) n m arcs routes mapping
+            placed-formed =
+                firsts-formed mode (placesOf p) n m arcs routes mapping (long .in-arcs) (long .in-routes) (long .in-mapping)
+                (both-pass (firstOf (firsts mode (placesOf p) n m arcs routes mapping)) _ (sym (solves-last mode (placesOf p) n m arcs routes mapping) ∙ sym qc ∙ e) .0)
+
+            -- what the forwarding sum may rely on
+            pub table-given : GivenTable mode (placesOf p) n m routes mapping × Sized n m f
+            table-given = (record { limits = o .in-places .limits; routes = placed-formed .in-routes; table = placed-formed .in-mapping }, long .in-table)
+
+            pub routes-go : GoesTo (language cs) (language (padded places cs)) (Valid cs) (padWeight places) n (routesOn T) (matrixIn places n routes)
+            routes-go = subst (λ (ds : List Component). GoesTo (language cs) (language ds) (Valid cs) (padWeight places) n (routesOn T) (matrixIn places n routes)) (o .in-places .placed) (buffer-same matrixSum routes (placed-formed .in-routes))
+
+  -- ---- a call whose checks pass
+
+  -- a sound and lawful language, and A, R and M well formed: all that is known where every check but 12 passes
+  pub record WellGiven : Type 0 where
+    pub sound : Sound cs
     pub law-D : testD cs ≡ true
     pub law-U : testU cs ≡ true
-    pub law-C : needsC mode ≡ true → testC cs ≡ true
+    pub law-C : needsC (modeMeant T) ≡ true → testC cs ≡ true
+    pub formed : BuffersFormed (modeMeant T) cs n m arcs routes mapping
 
-  pub laws-passed : firstOf Laws ≡ Passed → Lawful
-  laws-passed e =
-      let (ed, e1) = both-pass (lawDCheck cs) _ e in
-      let (eu, e2) = both-pass (lawUCheck cs) _ e1 in
-      let (ec, e3) = both-pass (lawCCheck mode cs) _ e2 in
-      record { law-D = unless-passes (testD cs) (Law 1 0) ed; law-U = unless-passes (testU cs) (Law 2 0) eu; law-C = law-C-passed mode cs ec }
+  pub well-given : checkOf (firstCases 15 (forwardCases T f)) ≡ Passed → WellGiven
+  well-given e =
+      let (en, (ed, (em, (ec, (el, (la, (lr, (lm, (lf, (uD, (uU, (uC, (wa, (wr, (wm, u))))))))))))))) = first-passes (checksOf (firstCases 15 (forwardCases T f))) e in
+      let w = long-enough (nodes-passed n en .1, destinations-passed m ed) (pass-first (checksOf lengths) (la, (lr, (lm, (lf, tt))))) in
+      record {
+        sound = check-sound (network .language) (pass-first (countCase (network .language) .check ∷ limitCase (network .language) .check ∷ []) (ec, (el, tt)));
+        law-D = unless-passes (testD cs) (Law 1 0) uD;
+        law-U = unless-passes (testU cs) (Law 2 0) uU;
+        law-C = law-C-passed (modeMeant T) cs uC;
+        formed = firsts-formed (modeMeant T) cs n m arcs routes mapping (w .in-arcs) (w .in-routes) (w .in-mapping) (pass-first (firsts (modeMeant T) cs n m arcs routes mapping) (uC, (wa, (wr, (wm, tt)))));
+      }
 
-  pub record BuffersFormed : Type 0 where
-    pub arcs : Formed arcSum cs n a
-    pub routes : Formed matrixSum cs n r
-    pub mapping : FormedTable mode arcSum cs n m s
+  -- 12 is the last check
+  pub twelve-last : forwardCheck T f ≡ orElse (checkOf (firstCases 15 (forwardCases T f))) (solvesCase cs n arcs routes .check)
+  twelve-last =
+      check-append (firstCases 15 (forwardCases T f)) (solvesCase cs n arcs routes ∷ [])
+      ∙ ap (orElse (checkOf (firstCases 15 (forwardCases T f)))) (or-passed (solvesCase cs n arcs routes .check))
 
-  pub entries-passed : Long → firstOf Entries ≡ Passed → BuffersFormed
-  entries-passed g e =
-      let (ea, e1) = both-pass (arcsCheck cs n a) _ e in
-      let (er, e2) = both-pass (routesCheck cs n r) _ e1 in
-      let (es, e3) = both-pass (mappingCheck mode cs n m s) _ e2 in
-      record { arcs = check-formed 1 arcSum cs n a (g .arcs) ea; routes = check-formed 2 matrixSum cs n r (g .routes) er; mapping = entries.check-formed 3 mode arcSum cs n m s (g .mapping) es }
-
-  pub given : InPlaces n m cs → Lawful → BuffersFormed → Given cs n a r
-  given o u w = record { limits = o .limits; sound = o .sound; law-D = u .law-D; law-U = u .law-U; arcs = w .arcs; routes = w .routes }
-
-  -- all that is known where every check on the buffers passes
-  pub record Ready : Type 0 where
-    pub long : Long
-    pub laws : Lawful
-    pub formed : BuffersFormed
-    pub solved : solvesCheck cs n a r ≡ Passed
-
-  pub buffers-passed : n ≤ 16 → m ≤ 32 → firstOf (buffersChecks mode cs n m a r s f) ≡ Passed → Ready
-  buffers-passed h k e =
-      let (eb, e1) = both-pass (firstOf Lengths) _ (sym buffers-order ∙ e) in
-      let (eu, e2) = both-pass (firstOf Laws) _ e1 in
-      let (ef, e3) = both-pass (firstOf Entries) _ e2 in
-      let long = lengths-passed h k eb in
-      record { long = long; laws = laws-passed eu; formed = entries-passed long ef; solved = both-pass (solvesCheck cs n a r) _ e3 .0 }
-
-  -- .. and with it what the forwarding sum may rely on
-  pub table-given : InPlaces n m cs → firstOf (buffersChecks mode cs n m a r s f) ≡ Passed → GivenTable mode cs n m r s × Sized n m f
-  table-given o e =
-      let g = buffers-passed (o .few) (o .few-destinations) e in
-      (record { limits = o .limits; routes = g .formed .routes; table = g .formed .mapping }, g .long .table)
+  pub all-passed : forwardCheck T f ≡ Passed → WellGiven × (solves cs n (arcsOn network) (routesOn T) ≡ true)
+  all-passed e =
+      let h = both-pass (checkOf (firstCases 15 (forwardCases T f))) (solvesCase cs n arcs routes .check) (sym twelve-last ∙ e) in
+      (well-given (h .0), unless-passes (solves cs n (arcsOn network) (routesOn T)) (Equation 2 0) (h .1))

@@ -1,35 +1,30 @@
--- What the inner functions say and rely on, on the way to Calls. They join the code to Calls; nothing here has to be believed.
-use Prim.Native.Nat.{ℕ, _≤_}
+-- What the checks after the entrance say and rely on, on the way to Calls. They join the code to Calls; nothing here has to be believed.
+use Prim.Native.Nat.{ℕ}
 use mathlib.Core.Path.{_≡_}
-use mathlib.Core.List.{List, []}
-use Rattle.refusals.specs.declared.Check.the-variants.{Passed, Refused}
+use mathlib.Core.Bool.{true}
+use mathlib.Core.List.{List, [], _∷_}
+use Rattle.refusals.specs.declared.Check.{Check}
 use Rattle.refusals.specs.Checks.{firstOf}
 use Rattle.weights.specs.declared.Component.{Component}
-use Rattle.weights.specs.declared.Language.{Language}
-use Rattle.weights.specs.declared.Places.{Places}
-use Rattle.weights.specs.Sizes.{places}
 use Rattle.weights.specs.Weights.{Sound}
-use Rattle.weights.specs.Languages.{componentsOf, padded, placesOf, SmallLimits}
+use Rattle.weights.specs.Laws.{testD, testU}
+use Rattle.weights.specs.Languages.{SmallLimits}
+use Rattle.matrices.specs.Buffers.{Square}
 use Rattle.modes.specs.declared.Mode.{Mode}
-use Rattle.modes.specs.declared.Chosen.the-variants.{Fits}
-use Rattle.modes.specs.Entries.{modeFor}
-use Rattle.forwarding.specs.declared.Arguments.{Arguments}
-use Rattle.forwarding.specs.declared.Arguments.the-variants.{Given, Refused as Not-given}
-use Rattle.forwarding.specs.Calls.{argumentsChecks}
+use Rattle.tables.specs.Tables.{Sized}
+use Rattle.guards.specs.Checks.{arcsCase, routesCase}
+use Rattle.table_guards.specs.Checks.{lawCCheck, mappingCase, solvesCase}
 
--- the sizes of a network and its destinations, and the places of a sound language with small limits
-pub record InPlaces (n m : ℕ) (cs : List Component) : Type 0 where
-  pub few : n ≤ 16
-  pub few-destinations : m ≤ 32
+-- the places of a sound and lawful language, and A, R and M of their lengths
+pub record Measured (cs : List Component) (n m : ℕ) (a r mapping : List ℕ) : Type 0 where
   pub limits : SmallLimits 65535 cs
   pub sound : Sound cs
+  pub law-D : testD cs ≡ true
+  pub law-U : testU cs ≡ true
+  pub in-arcs : Square n a
+  pub in-routes : Square n r
+  pub in-mapping : Sized n m mapping
 
--- the places are the language's, and the mode is the one that the number means
-pub record Means (l : Language) (m number : ℕ) (p : Places) (mode : Mode) : Type 0 where
-  pub placed : placesOf p ≡ padded places (componentsOf l)
-  pub chosen : modeFor (componentsOf l) m number ≡ Fits mode
-
--- what the checks of the arguments give
-abbrev pub ArgumentsSay : Language → ℕ → ℕ → ℕ → Arguments → Type 0
-ArgumentsSay l n m number (Given p mode) = (firstOf (argumentsChecks l n m number []) ≡ Passed) × Means l m number p mode × InPlaces n m (placesOf p)
-ArgumentsSay l n m number (Not-given x) = firstOf (argumentsChecks l n m number []) ≡ Refused x
+-- 10 for C, 6 on A, R, M, 12
+abbrev pub contentsCheck : Mode → List Component → ℕ → ℕ → List ℕ → List ℕ → List ℕ → Check
+contentsCheck mode cs n m a r mapping = firstOf (lawCCheck mode cs ∷ arcsCase cs n a .check ∷ routesCase cs n r .check ∷ mappingCase mode cs n m mapping .check ∷ solvesCase cs n a r .check ∷ [])

@@ -1,1 +1,4 @@
 pub mod Singles
+pub mod Cases
+pub mod Entering
+pub mod Unique

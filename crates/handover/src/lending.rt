@@ -1,15 +1,16 @@
 // The calls of a handover: which matrix lends, the row that is lent, and why none is.
 use super::LenderAnswer;
 use super::checks;
+use guards::Ready;
 use holding::comparing;
 use refusals::Answer;
-use routes::Ready;
 use weights::Language;
 use weights::WEIGHT_WORDS;
 ghost use mathlib.Core.Path.{_≡_};
 ghost use Prim.Native.Nat.{_<_};
 ghost use Rattle.refusals.specs.Checks.{answerTold, checkTold};
 ghost use Rattle.matrices.specs.Buffers.{Square};
+ghost use Rattle.guards.specs.OnNetwork.{onNetwork};
 ghost use Rattle.handover.specs.Calls.{rowPart, rowStart, handoverCheck, lenderRow, lenderSaid, lentRow, lentStart};
 
 // Which matrix lends: the new one where every entry of it is the best, else the standing one. Refuses 3, 5, 4, 9, 10, 6 on A, 7.
@@ -21,7 +22,7 @@ pub fn lender(
     newer: &[u32],
     i: u32,
 ) -> LenderAnswer
-    ensures { λ x. ⌜ lenderSaid x ≡ lenderRow l n (now (a .entry)) (now (standing .entry)) (now (newer .entry)) i ⌝ }
+    ensures { λ x. ⌜ lenderSaid x ≡ lenderRow (onNetwork l n (now (a .entry))) (now (standing .entry)) (now (newer .entry)) i ⌝ }
 {
     match checks::ready(l, n, a, standing, newer, i) {
         Ready::Refused(x) => LenderAnswer::Refused(x),
@@ -55,8 +56,8 @@ pub fn lent_row<'b>(
     newer: &'b [u32],
     i: u32,
 ) -> &'b [u32]
-    ensures { λ part. ⌜ now part ≡ lentRow l n (now (a .entry)) (now (standing .entry)) (now (newer .entry)) i ⌝ }
-    ensures { λ part. ⌜ part .ptr ≡ lentStart l n (now (a .entry)) (now (standing .entry)) (now (newer .entry)) i (standing .entry .ptr) (newer .entry .ptr) ⌝ }
+    ensures { λ part. ⌜ now part ≡ lentRow (onNetwork l n (now (a .entry))) (now (standing .entry)) (now (newer .entry)) i ⌝ }
+    ensures { λ part. ⌜ part .ptr ≡ lentStart (onNetwork l n (now (a .entry))) (now (standing .entry)) (now (newer .entry)) i (standing .entry .ptr) (newer .entry .ptr) ⌝ }
 {
     match lender(l, n, a, standing, newer, i) {
         LenderAnswer::Newer => row_of(newer, n as usize, i as usize),
@@ -74,7 +75,7 @@ pub fn which_refusal(
     newer: &[u32],
     i: u32,
 ) -> Answer
-    ensures { λ x. ⌜ answerTold x ≡ checkTold (handoverCheck l n (now (a .entry)) (now (standing .entry)) (now (newer .entry)) i) ⌝ }
+    ensures { λ x. ⌜ answerTold x ≡ checkTold (handoverCheck (onNetwork l n (now (a .entry))) (now (standing .entry)) (now (newer .entry)) i) ⌝ }
 {
     match lender(l, n, a, standing, newer, i) {
         LenderAnswer::Newer => Answer::Done,

@@ -2,6 +2,5 @@ pub mod Tested
 pub mod Recipe
 pub mod Stays
 pub mod Lent
-pub mod Exact
 pub mod Settles
 pub mod Worked

@@ -4,15 +4,13 @@ use mathlib.Core.Path.{_≡_, refl, sym, ap, ap₂, subst, _∙_}
 use mathlib.Core.Bool.{Bool, true, false, cond}
 use mathlib.Core.List.{List, [], _∷_, map}
 use native.Mathlib.Omega.{arith}
-use lib.Dec.{eqb, ltb}
+use lib.Dec.{eqb}
 use lib.ListN.{length}
-use borrow.Author.Tests.{lt-ltb, ltb-false}
-use Rattle.refusals.specs.declared.Refusal.the-variants.{Sum}
+use borrow.Author.Tests.{lt-ltb}
 use Rattle.refusals.specs.declared.Check.{Check}
 use Rattle.refusals.specs.declared.Check.the-variants.{Passed, Refused}
-use Rattle.refusals.specs.Told.{told, done}
-use Rattle.refusals.proofs.First.{first-passes}
-use Rattle.refusals.proofs.OneToOne.{told-not-done}
+use Rattle.refusals.specs.Told.{done}
+use Rattle.refusals.proofs.First.{first-passes, if-passed, both-pass}
 use Rattle.algebra.specs.Path.{Mem}
 use Rattle.algebra.specs.Best.{Best, best}
 use Rattle.algebra.specs.Step.{Step, row, settle, routed, Solves, step, run}
@@ -20,16 +18,15 @@ use Rattle.algebra.proofs.Demands.{mem-split}
 use Rattle.algebra.proofs.Reach.{run-append, settled-from-any}
 use Rattle.algebra.proofs.Still.{Agree, routed-agree}
 use Rattle.weights.specs.declared.Component.{Component}
-use Rattle.weights.specs.declared.Language.{Language}
 use Rattle.weights.specs.Sizes.{weightWords, matrixSum}
 use Rattle.weights.specs.Weights.{language}
-use Rattle.weights.specs.Languages.{componentsOf, SmallLimits}
+use Rattle.weights.specs.Languages.{SmallLimits}
 use Rattle.weights.proofs.Checking.{few}
 use Rattle.matrices.specs.Buffers.{matrixWords}
 use Rattle.matrices.specs.Steps.{Matrix}
 use Rattle.matrices.proofs.Entries.{matrix-cong, length-matrix}
-use Rattle.guards.specs.Checks.{firstSettle, manyCheck, listCheck}
-use Rattle.routes.specs.Calls.{matrixOf, stepOf, stepFits, runOf, doneOf, matricesChecks, stepsCheck, stepsRowBy, stepsRow, stepsLeftBy, stepsLeft}
+use Rattle.guards.specs.Checks.{firstSettle, manyCase, listCase}
+use Rattle.routes.specs.Calls.{stepOf, stepFits, runOf, doneOf, stepsCheck, ranOf, stepsRow, stepsLeft, StepsRow, countOf, stepsCases, sumCheck}
 use Rattle.guards.proofs.Singles.{nodes-passed}
 use Rattle.histories.specs.History.{BestColumn}
 use Rattle.histories.proofs.Reached.{network}
@@ -40,6 +37,12 @@ use Rattle.histories.proofs.Histories.{settle-number, mem-steps}
 use Rattle.histories.proofs.Standing.{words-self, routes-formed}
 use Rattle.handovers.specs.Handovers.{LawfulNetwork, RowsOnly, SettlesAll}
 use Rattle.handovers.proofs.Tested.{call-lawful, net, entry-reads, only-best}
+use Rattle.refusals.specs.Cases.{checksOf}
+use Rattle.refusals.proofs.Cases.{done-check}
+use Rattle.refusals.specs.Checks.{ifPassed}
+use Rattle.routes.proofs.Answers.{row-by}
+use Rattle.histories.proofs.Exact.{steps-counted}
+use Rattle.guards.specs.OnNetwork.{OnNetwork, components, matrixOn, arcsOn}
 
 -- ---- sweeping
 
@@ -66,20 +69,20 @@ row-steps n [] h r = refl
 row-steps n (x ∷ list) h r = let k : x < n = r .0 in ap₂ (λ (s : Step) (t : List Step). s ∷ t) (rw (lt-ltb x firstSettle (omega arith))) (row-steps n list h (r .1))
 
 -- A step call whose list has only row steps leaves a matrix that satisfies the equation as it is: sweeping never repairs it.
-pub sweeping-never-repairs : (l : Language) (n : ℕ) (a r list : List ℕ) → Solves (language (componentsOf l)) n (matrixOf l n a) (matrixOf l n r) → RowsOnly n list → stepsLeft l n a r list ≡ r
-sweeping-never-repairs l n a r list e rows = go (stepsCheck l n a r list) refl
+pub sweeping-never-repairs : (N : OnNetwork) (r list : List ℕ) → Solves (language (components N)) (N .n) (arcsOn N) (matrixOn N r) → RowsOnly (N .n) list → stepsLeft N r list ≡ r
+sweeping-never-repairs N r list e rows = go (stepsCheck N r list) refl
   where
-    passed : stepsCheck l n a r list ≡ Passed → matrixWords n (runOf (componentsOf l) n (matrixOf l n a) (matrixOf l n r) (map stepOf list)) ≡ r
+    passed : stepsCheck N r list ≡ Passed → matrixWords (N .n) (ranOf N r list) ≡ r
     passed p =
-        let h = first-passes (matricesChecks l n a r (manyCheck list ∷ listCheck n list ∷ [])) p in
-        ap (λ (s : List Step). matrixWords n (runOf (componentsOf l) n (matrixOf l n a) (matrixOf l n r) s)) (row-steps n list (nodes-passed n (h .0) .1) rows)
-        ∙ matrix-cong n (runOf (componentsOf l) n (matrixOf l n a) (matrixOf l n r) (map row list)) (matrixOf l n r)
-        (still (componentsOf l) n (matrixOf l n a) (matrixOf l n r) e list (matrixOf l n r) (λ i j hi hj. refl))
-        ∙ words-self matrixSum (componentsOf l) n r (few l) (routes-formed l n a r (manyCheck list ∷ listCheck n list ∷ []) h)
+        let h = first-passes (checksOf (stepsCases N r list)) p in
+        ap (λ (s : List Step). matrixWords (N .n) (runOf (components N) (N .n) (arcsOn N) (matrixOn N r) s)) (row-steps (N .n) list (nodes-passed (N .n) (h .0) .1) rows)
+        ∙ matrix-cong (N .n) (runOf (components N) (N .n) (arcsOn N) (matrixOn N r) (map row list)) (matrixOn N r)
+        (still (components N) (N .n) (arcsOn N) (matrixOn N r) e list (matrixOn N r) (λ i j hi hj. refl))
+        ∙ words-self matrixSum (components N) (N .n) r (few (N .language)) (routes-formed N r (manyCase list ∷ listCase (N .n) list ∷ []) h)
 
-    go : (c : Check) → stepsCheck l n a r list ≡ c → stepsLeft l n a r list ≡ r
-    go Passed p = ap (λ (c : Check). stepsLeftBy c n (runOf (componentsOf l) n (matrixOf l n a) (matrixOf l n r) (map stepOf list)) r) p ∙ passed p
-    go (Refused x) p = ap (λ (c : Check). stepsLeftBy c n (runOf (componentsOf l) n (matrixOf l n a) (matrixOf l n r) (map stepOf list)) r) p
+    go : (c : Check) → stepsCheck N r list ≡ c → stepsLeft N r list ≡ r
+    go Passed p = ap (λ (c : Check). ifPassed c (matrixWords (N .n) (ranOf N r list)) r) p ∙ passed p
+    go (Refused x) p = ap (λ (c : Check). ifPassed c (matrixWords (N .n) (ranOf N r list)) r) p
 
 -- ---- settling
 
@@ -95,51 +98,36 @@ whole-run cs n A R (s ∷ steps) e = go (stepFits cs n A R s) e (whole-run cs n 
     go true q ih = ih (omega arith)
     go false q ih = absurd (omega arith)
 
-done-most : (cs : List Component) (n : ℕ) (A R : Matrix) (steps : List Step) → doneOf cs n A R steps ≤ length steps
-unfolding doneOf
-done-most cs n A R [] = omega arith
-done-most cs n A R (s ∷ steps) = go (stepFits cs n A R s) (done-most cs n A (step (language cs) n A s R) steps)
-  where
-    go : (b : Bool) → doneOf cs n A (step (language cs) n A s R) steps ≤ length steps → cond b (suc (doneOf cs n A (step (language cs) n A s R) steps)) 0 ≤ suc (length steps)
-    go true h = omega arith
-    go false h = omega arith
+module _ (N : OnNetwork) (r list : List ℕ) (limits : SmallLimits 65535 (components N)) (d : stepsRow N r list .told ≡ done) where
+  open OnNetwork N using (n, arcs)
 
-module _ (l : Language) (n : ℕ) (a r list : List ℕ) (limits : SmallLimits 65535 (componentsOf l)) (d : stepsRow l n a r list .told ≡ done) where
   abbrev cs : List Component
-  cs = componentsOf l
+  cs = components N
 
   abbrev A : Matrix
-  A = matrixOf l n a
+  A = arcsOn N
 
   abbrev R : Matrix
-  R = matrixOf l n r
+  R = matrixOn N r
 
   abbrev steps : List Step
   steps = map stepOf list
 
   -- a call that is done has passed its checks and done every step
-  passed : stepsCheck l n a r list ≡ Passed
-  passed = go (stepsCheck l n a r list) refl d
-    where
-      go : (c : Check) → stepsCheck l n a r list ≡ c → stepsRowBy c (doneOf cs n A R steps) (length list) .told ≡ done → stepsCheck l n a r list ≡ Passed
-      go Passed p e = p
-      go (Refused x) p e = absurd (told-not-done x e)
+  passed : stepsCheck N r list ≡ Passed
+  passed = both-pass (stepsCheck N r list) (sumCheck (countOf N r list) (length list)) (done-check _ .0 (sym (ap (λ (w : StepsRow). w .told) (row-by N r list refl)) ∙ d)) .0
 
   whole : doneOf cs n A R steps ≡ length steps
-  whole = go (ltb (doneOf cs n A R steps) (length list)) refl (sym (ap (λ (c : Check). stepsRowBy c (doneOf cs n A R steps) (length list) .told) passed) ∙ d)
-    where
-      go : (b : Bool) → ltb (doneOf cs n A R steps) (length list) ≡ b → cond b (told (Sum 0 (doneOf cs n A R steps))) done ≡ done → doneOf cs n A R steps ≡ length steps
-      go true p e = absurd (told-not-done (Sum 0 (doneOf cs n A R steps)) e)
-      go false p e = omega (arith, ltb-false (doneOf cs n A R steps) (length list) p, done-most cs n A R steps, length-steps list)
+  whole = sym (if-passed (doneOf cs n A R steps) 0 passed) ∙ steps-counted N r list .whole d ∙ sym (length-steps list)
 
-  pub steps-lawful : LawfulNetwork l n a
-  steps-lawful = call-lawful l n a r (manyCheck list ∷ listCheck n list ∷ []) limits passed
+  pub steps-lawful : LawfulNetwork N
+  steps-lawful = call-lawful N r (manyCase list ∷ listCase n list ∷ []) limits passed
 
   -- the buffer holds what the steps leave, as long as before
-  left : stepsLeft l n a r list ≡ matrixWords n (run (language cs) n A steps R)
-  left = ap (λ (c : Check). stepsLeftBy c n (runOf cs n A R steps) r) passed ∙ ap (matrixWords n) (whole-run cs n A R steps whole)
+  left : stepsLeft N r list ≡ matrixWords n (run (language cs) n A steps R)
+  left = ap (λ (c : Check). ifPassed c (matrixWords n (runOf cs n A R steps)) r) passed ∙ ap (matrixWords n) (whole-run cs n A R steps whole)
 
-  pub left-long : length (stepsLeft l n a r list) ≡ n * (n * weightWords)
+  pub left-long : length (stepsLeft N r list) ≡ n * (n * weightWords)
   left-long = ap length left ∙ length-matrix n (run (language cs) n A steps R)
 
   column : (j : ℕ) → Mem (firstSettle + j) list → (i : ℕ) → i < n → Best (language cs) n A i j (run (language cs) n A steps R i j)
@@ -147,20 +135,20 @@ module _ (l : Language) (n : ℕ) (a r list : List ℕ) (limits : SmallLimits 65
   column j m i hi =
       let (s, t, e) = mem-split (settle j) steps (subst (λ (x : Step). Mem x steps) (settle-number j) (mem-steps (firstSettle + j) list m)) in
       subst (λ (w : List Step). Best (language cs) n A i j (run (language cs) n A w R i j)) (sym e)
-      (subst (λ (T : Matrix). Best (language cs) n A i j (T i j)) (sym (run-append (language cs) n A s (settle j ∷ t) R)) (settled-from-any (net l n a steps-lawful) (run (language cs) n A s R) j t i hi))
+      (subst (λ (T : Matrix). Best (language cs) n A i j (T i j)) (sym (run-append (language cs) n A s (settle j ∷ t) R)) (settled-from-any (net N steps-lawful) (run (language cs) n A s R) j t i hi))
 
   entry : (i j : ℕ) → i < n → Mem (firstSettle + j) list → run (language cs) n A steps R i j ≡ best (language cs) n A i j
-  entry i j hi m = only-best l n a steps-lawful i j hi (run (language cs) n A steps R i j) (column j m i hi)
+  entry i j hi m = only-best N steps-lawful i j hi (run (language cs) n A steps R i j) (column j m i hi)
 
   -- From any matrix that passes the checks: a done call whose list settles column j leaves the best there.
-  pub settled-column : (j : ℕ) → j < n → Mem (firstSettle + j) list → BestColumn l n a (stepsLeft l n a r list) j
+  pub settled-column : (j : ℕ) → j < n → Mem (firstSettle + j) list → BestColumn N (stepsLeft N r list) j
   settled-column j hj m i hi =
-      subst (Best (language cs) n A i j) (entry i j hi m ∙ sym (entry-reads l n a steps-lawful (run (language cs) n A steps R) i j hi hj (entry i j hi m)) ∙ sym (ap (λ (s : List ℕ). matrixOf l n s i j) left)) (column j m i hi)
+      subst (Best (language cs) n A i j) (entry i j hi m ∙ sym (entry-reads N steps-lawful (run (language cs) n A steps R) i j hi hj (entry i j hi m)) ∙ sym (ap (λ (s : List ℕ). matrixOn N s i j) left)) (column j m i hi)
 
   -- A done call that settles every column leaves the best matrix, whatever the buffer held before.
-  pub settling-repairs : SettlesAll n list → stepsLeft l n a r list ≡ bestWords l n a
+  pub settling-repairs : SettlesAll n list → stepsLeft N r list ≡ bestWords N
   settling-repairs all = left ∙ matrix-cong n (run (language cs) n A steps R) (best (language cs) n A) (λ i j hi hj. entry i j hi (all j hj))
 
   -- So it passes the test of a handover.
-  pub settled-is-best : SettlesAll n list → isBest l n a (stepsLeft l n a r list) ≡ true
-  settled-is-best all = words-exactly (stepsLeft l n a r list) (bestWords l n a) .1 (settling-repairs all)
+  pub settled-is-best : SettlesAll n list → isBest N (stepsLeft N r list) ≡ true
+  settled-is-best all = words-exactly (stepsLeft N r list) (bestWords N) .1 (settling-repairs all)

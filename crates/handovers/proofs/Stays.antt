@@ -13,35 +13,38 @@ use Rattle.algebra.specs.Step.{Step, row, settle, routed, step}
 use Rattle.algebra.specs.Demand.{HoldsBest}
 use Rattle.algebra.proofs.Reach.{column-solves}
 use Rattle.weights.specs.declared.Component.{Component}
-use Rattle.weights.specs.declared.Language.{Language}
 use Rattle.weights.specs.Weights.{language}
-use Rattle.weights.specs.Languages.{componentsOf, SmallLimits}
+use Rattle.weights.specs.Languages.{SmallLimits}
 use Rattle.matrices.specs.Buffers.{matrixWords}
 use Rattle.matrices.specs.Steps.{Matrix}
-use Rattle.guards.specs.Checks.{firstSettle, manyCheck, listCheck}
-use Rattle.routes.specs.Calls.{matrixOf, stepOf, stepFits, runOf, stepsCheck, stepsRow, stepsLeftBy, stepsLeft}
+use Rattle.guards.specs.Checks.{firstSettle, manyCase, listCase}
+use Rattle.routes.specs.Calls.{stepOf, stepFits, runOf, stepsCheck, stepsRow, stepsLeft}
 use Rattle.histories.specs.History.{afterCalls, BestColumn}
 use Rattle.histories.proofs.Reached.{network}
 use Rattle.handovers.specs.Handovers.{LawfulNetwork}
 use Rattle.handovers.proofs.Tested.{call-lawful, net, is-best, only-best, entry-reads}
 use Rattle.handovers.proofs.Recipe.{settled-column}
+use Rattle.refusals.specs.Checks.{ifPassed}
+use Rattle.guards.specs.OnNetwork.{OnNetwork, components, matrixOn, arcsOn}
 
-module _ (l : Language) (n : ℕ) (a : List ℕ) (j : ℕ) where
+module _ (N : OnNetwork) (j : ℕ) where
+  open OnNetwork N using (n, arcs)
+
   abbrev cs : List Component
-  cs = componentsOf l
+  cs = components N
 
   abbrev A : Matrix
-  A = matrixOf l n a
+  A = arcsOn N
 
   -- column j of a matrix holds the best
   abbrev Holds : Matrix → Type 0
   Holds R = HoldsBest (language cs) n A R j
 
-  module _ (g : LawfulNetwork l n a) where
+  module _ (g : LawfulNetwork N) where
     -- the best solves the equation of its column
     solved : (R : Matrix) → Holds R → (i : ℕ) → i < n → R i j ≡ routed (language cs) n A R i j
     unfolding net network
-    solved R b i hi = column-solves (net l n a g) R j b i hi
+    solved R b i hi = column-solves (net N g) R j b i hi
 
     -- so a row step stores the best again; a settle stores it, or leaves the column alone
     step-keeps : (s : Step) (R : Matrix) → Holds R → Holds (step (language cs) n A s R)
@@ -53,7 +56,7 @@ module _ (l : Language) (n : ℕ) (a : List ℕ) (j : ℕ) where
     step-keeps (settle k) R b i hi = go (eqb j k)
       where
         go : (t : Bool) → Best (language cs) n A i j (cond t (best (language cs) n A i j) (R i j))
-        go true = is-best l n a g i j hi
+        go true = is-best N g i j hi
         go false = b i hi
 
     -- the same of a run, however far it goes
@@ -67,27 +70,27 @@ module _ (l : Language) (n : ℕ) (a : List ℕ) (j : ℕ) where
         go false h = b
 
     -- .. and of its words
-    words-keep : (R : Matrix) → j < n → Holds R → BestColumn l n a (matrixWords n R) j
-    words-keep R hj b i hi = subst (Best (language cs) n A i j) (sym (entry-reads l n a g R i j hi hj (only-best l n a g i j hi (R i j) (b i hi)))) (is-best l n a g i j hi)
+    words-keep : (R : Matrix) → j < n → Holds R → BestColumn N (matrixWords n R) j
+    words-keep R hj b i hi = subst (Best (language cs) n A i j) (sym (entry-reads N g R i j hi hj (only-best N g i j hi (R i j) (b i hi)))) (is-best N g i j hi)
 
   module _ (limits : SmallLimits 65535 cs) (hj : j < n) where
     -- A step call with any list leaves a column that holds the best as one that holds it: done, refused, or stopped by 11.
-    pub stays-best : (r list : List ℕ) → BestColumn l n a r j → BestColumn l n a (stepsLeft l n a r list) j
-    stays-best r list b = go (stepsCheck l n a r list) refl
+    pub stays-best : (r list : List ℕ) → BestColumn N r j → BestColumn N (stepsLeft N r list) j
+    stays-best r list b = go (stepsCheck N r list) refl
       where
-        go : (c : Check) → stepsCheck l n a r list ≡ c → BestColumn l n a (stepsLeftBy c n (runOf cs n A (matrixOf l n r) (map stepOf list)) r) j
+        go : (c : Check) → stepsCheck N r list ≡ c → BestColumn N (ifPassed c (matrixWords n (runOf cs n A (matrixOn N r) (map stepOf list))) r) j
         go Passed p =
-            let g = call-lawful l n a r (manyCheck list ∷ listCheck n list ∷ []) limits p in
-            words-keep g (runOf cs n A (matrixOf l n r) (map stepOf list)) hj (run-keeps g (map stepOf list) (matrixOf l n r) b)
+            let g = call-lawful N r (manyCase list ∷ listCase n list ∷ []) limits p in
+            words-keep g (runOf cs n A (matrixOn N r) (map stepOf list)) hj (run-keeps g (map stepOf list) (matrixOn N r) b)
         go (Refused x) p = b
 
     -- So do any number of them.
-    pub stays-best-after : (r : List ℕ) (lists : List (List ℕ)) → BestColumn l n a r j → BestColumn l n a (afterCalls l n a r lists) j
+    pub stays-best-after : (r : List ℕ) (lists : List (List ℕ)) → BestColumn N r j → BestColumn N (afterCalls N r lists) j
     unfolding afterCalls
     stays-best-after r [] b = b
-    stays-best-after r (list ∷ lists) b = stays-best-after (stepsLeft l n a r list) lists (stays-best r list b)
+    stays-best-after r (list ∷ lists) b = stays-best-after (stepsLeft N r list) lists (stays-best r list b)
 
     -- From any matrix: after a done call that settles column j, and any further step calls, it holds the best.
-    pub settled-stays : (r list : List ℕ) (lists : List (List ℕ)) → stepsRow l n a r list .told ≡ done → Mem (firstSettle + j) list → BestColumn l n a (afterCalls l n a r (list ∷ lists)) j
+    pub settled-stays : (r list : List ℕ) (lists : List (List ℕ)) → stepsRow N r list .told ≡ done → Mem (firstSettle + j) list → BestColumn N (afterCalls N r (list ∷ lists)) j
     unfolding afterCalls
-    settled-stays r list lists d m = stays-best-after (stepsLeft l n a r list) lists (settled-column l n a r list limits d j hj m)
+    settled-stays r list lists d m = stays-best-after (stepsLeft N r list) lists (settled-column N r list limits d j hj m)

@@ -8,19 +8,18 @@ use Rattle.refusals.specs.declared.Check.the-variants.{Passed}
 use Rattle.algebra.specs.Path.{Mem}
 use Rattle.algebra.specs.Best.{Best}
 use Rattle.algebra.specs.Step.{Solves}
-use Rattle.weights.specs.declared.Language.{Language}
 use Rattle.weights.specs.Sizes.{matrixSum}
 use Rattle.weights.specs.Weights.{language}
-use Rattle.weights.specs.Languages.{componentsOf, countCheck, limitCheck, SmallLimits}
+use Rattle.weights.specs.Languages.{countCase, limitCase, SmallLimits}
 use Rattle.matrices.specs.Buffers.{Formed}
-use Rattle.guards.specs.Checks.{firstSettle, nodesCheck, lengthCheck, lawDCheck, lawUCheck, arcsCheck}
-use Rattle.routes.specs.Calls.{matrixOf}
+use Rattle.guards.specs.Checks.{firstSettle, nodesCase, lengthCase, lawDCase, lawUCase, arcsCase}
 use Rattle.handover.specs.Calls.{handoverCheck, rowPart, lentRow}
+use Rattle.guards.specs.OnNetwork.{OnNetwork, components, matrixOn, arcsOn}
 
 -- every entry of the matrix in s is the best weight over paths that visit no node twice, and none is malformed
-pub record EveryEntryBest (l : Language) (n : ℕ) (a s : List ℕ) : Type 0 where
-  pub formed : Formed matrixSum (componentsOf l) n s
-  pub best : (i j : ℕ) → i < n → j < n → Best (language (componentsOf l)) n (matrixOf l n a) i j (matrixOf l n s i j)
+pub record EveryEntryBest (N : OnNetwork) (s : List ℕ) : Type 0 where
+  pub formed : Formed matrixSum (components N) (N .n) s
+  pub best : (i j : ℕ) → i < N .n → j < N .n → Best (language (components N)) (N .n) (arcsOn N) i j (matrixOn N s i j)
 
 -- every number of the list is a row step
 abbrev pub RowsOnly : ℕ → List ℕ → Type 0
@@ -42,19 +41,19 @@ abbrev pub SettlesAll : ℕ → List ℕ → Type 0
 SettlesAll n list = (j : ℕ) → j < n → Mem (firstSettle + j) list
 
 -- what the checks of every call on A give: a lawful language whose limits are 16-bit numbers, n, and well-formed arcs
-pub record LawfulNetwork (l : Language) (n : ℕ) (a : List ℕ) : Type 0 where
-  pub nodes : nodesCheck n ≡ Passed
-  pub count : countCheck l ≡ Passed
-  pub sound : limitCheck l ≡ Passed
-  pub long : lengthCheck 1 n a ≡ Passed
-  pub law-D : lawDCheck (componentsOf l) ≡ Passed
-  pub law-U : lawUCheck (componentsOf l) ≡ Passed
-  pub arcs : arcsCheck (componentsOf l) n a ≡ Passed
-  pub limits : SmallLimits 65535 (componentsOf l)
+pub record LawfulNetwork (N : OnNetwork) : Type 0 where
+  pub nodes : nodesCase (N .n) .check ≡ Passed
+  pub count : countCase (N .language) .check ≡ Passed
+  pub sound : limitCase (N .language) .check ≡ Passed
+  pub long : lengthCase 1 (N .n) (N .arcs) .check ≡ Passed
+  pub law-D : lawDCase (components N) .check ≡ Passed
+  pub law-U : lawUCase (components N) .check ≡ Passed
+  pub arcs : arcsCase (components N) (N .n) (N .arcs) .check ≡ Passed
+  pub limits : SmallLimits 65535 (components N)
 
 -- "Satisfying the routing equation is not enough": the new matrix satisfies it, yet the standing row is lent, which is another
-pub record NotEnough (l : Language) (n : ℕ) (a standing newer : List ℕ) (i : ℕ) : Type 0 where
-  pub passes : handoverCheck l n a standing newer i ≡ Passed
-  pub satisfies : Solves (language (componentsOf l)) n (matrixOf l n a) (matrixOf l n newer)
-  pub lends : lentRow l n a standing newer i ≡ rowPart n i standing
-  pub another : rowPart n i newer ≡ rowPart n i standing → ⊥
+pub record NotEnough (N : OnNetwork) (standing newer : List ℕ) (i : ℕ) : Type 0 where
+  pub passes : handoverCheck N standing newer i ≡ Passed
+  pub satisfies : Solves (language (components N)) (N .n) (arcsOn N) (matrixOn N newer)
+  pub lends : lentRow N standing newer i ≡ rowPart (N .n) i standing
+  pub another : rowPart (N .n) i newer ≡ rowPart (N .n) i standing → ⊥

@@ -1,2 +1,1 @@
 pub mod Handovers
-pub mod Exact

@@ -1,52 +1,37 @@
--- A call refuses what one of its checks gives where all before it pass, and the step call besides 11: at the first row step that
--- would store a sum above 983,025; and it is done exactly where its checks pass and no step would.
-use Prim.Native.Nat.{ℕ, zero, suc, _<_}
-use mathlib.Core.Path.{_≡_, refl, sym, ap, _∙_}
-use mathlib.Core.Bool.{Bool, true, false, cond, false≢true}
+-- The step call tells each refusal exactly where it is due, 11 last: at the first row step that would store a sum above 983,025; it is
+-- done exactly where none is; and it counts the steps done.
+use Prim.Native.Nat.{ℕ, zero, suc, _≤_, _<_}
+use mathlib.Core.Path.{_≡_, refl, sym, ap, subst, _∙_}
+use mathlib.Core.Bool.{Bool, true, false, cond}
 use mathlib.Core.List.{List, [], _∷_, map}
-use mathlib.Core.Logic.{_⊎_, inl, inr, _↔_}
+use mathlib.Core.Logic.{_↔_}
 use native.Mathlib.Omega.{arith}
 use lib.Dec.{ltb}
 use lib.ListN.{length}
-use borrow.Author.Tests.{ltb-true, lt-ltb}
+use borrow.Author.Tests.{ltb-true, ltb-false, lt-ltb}
 use Rattle.refusals.specs.declared.Refusal.{Refusal}
 use Rattle.refusals.specs.declared.Refusal.the-variants.{Sum}
 use Rattle.refusals.specs.declared.Check.{Check}
 use Rattle.refusals.specs.declared.Check.the-variants.{Passed, Refused}
 use Rattle.refusals.specs.Told.{told, done}
-use Rattle.refusals.specs.Checks.{firstOf, checkTold, Gives}
+use Rattle.refusals.specs.declared.Told.{Told}
+use Rattle.refusals.specs.Checks.{checkTold}
+use Rattle.refusals.specs.Cases.{DueIn, ToldExactly, refusalNumbers}
 use Rattle.refusals.proofs.OneToOne.{told-one, told-not-done}
-use Rattle.refusals.proofs.First.{first-exactly}
-use Rattle.refusals.proofs.Exactly.{told-check}
+use Rattle.refusals.proofs.First.{passed-not, refused-one}
+use Rattle.refusals.proofs.Cases.{Exact, AllExact, refuses-exactly, passes-exactly, told-exactly, never-due, only-at, no-more, _and_}
 use Rattle.algebra.specs.Step.{Step, step}
 use Rattle.weights.specs.declared.Component.{Component}
-use Rattle.weights.specs.declared.Language.{Language}
 use Rattle.weights.specs.Weights.{language}
-use Rattle.weights.specs.Languages.{componentsOf, countCheck, limitCheck}
-use Rattle.matrices.specs.Steps.{Matrix, solves}
-use Rattle.guards.specs.Checks.{nodesCheck, lengthCheck, lawDCheck, lawUCheck, manyCheck, listCheck}
-use Rattle.histories.specs.Exact.{StepOver, StopsAt, StepsOverflow}
+use Rattle.matrices.specs.Steps.{Matrix}
+use Rattle.guards.proofs.Cases.{many-exact, list-exact}
+use Rattle.routes.specs.Stops.{StepOver, StopsAt}
+use Rattle.routes.specs.Calls.{stepOf, stepFits, doneOf, stepsCases, stepsCheck, countOf, sumCheck, sumCase, runningCases, stepsRow, StepsCounted}
+use Rattle.routes.proofs.Cases.{matrices-exact}
+use Rattle.routes.proofs.Answers.{rowBy, row-by}
 use Rattle.histories.proofs.Reached.{length-steps}
 use Rattle.histories.proofs.Over.{step-over, step-fits}
-use Rattle.routes.specs.Calls.{matrixOf, freshCheck, matricesChecks, stepOf, stepFits, doneOf, rowAfterRun, stepsRowBy, stepsRow, equationCheck, equationRow, equationRowBy}
-
--- ---- a call refuses r exactly when one of its checks gives r and all before it pass
-
-pub fresh-refuses : (l : Language) (n : ℕ) (r : List ℕ) (x : Refusal) → (checkTold (freshCheck l n r) ≡ told x)
-    ↔ Gives (nodesCheck n ∷ countCheck l ∷ limitCheck l ∷ lengthCheck 2 n r ∷ lawDCheck (componentsOf l) ∷ lawUCheck (componentsOf l) ∷ []) x
-fresh-refuses l n r x =
-    let checks = nodesCheck n ∷ countCheck l ∷ limitCheck l ∷ lengthCheck 2 n r ∷ lawDCheck (componentsOf l) ∷ lawUCheck (componentsOf l) ∷ [] in
-    (λ e. first-exactly checks x .0 (told-check (freshCheck l n r) x .0 e), λ g. told-check (freshCheck l n r) x .1 (first-exactly checks x .1 g))
-
-pub equation-refuses : (l : Language) (n : ℕ) (a r : List ℕ) (x : Refusal) → (equationRow l n a r .told ≡ told x) ↔ Gives (matricesChecks l n a r []) x
-equation-refuses l n a r x = (
-  λ e. first-exactly (matricesChecks l n a r []) x .0 (told-check (equationCheck l n a r) x .0 (same (equationCheck l n a r) (solves (componentsOf l) n (matrixOf l n a) (matrixOf l n r)) e)),
-  λ g. ap (λ (c : Check). equationRowBy c (solves (componentsOf l) n (matrixOf l n a) (matrixOf l n r)) .told) (first-exactly (matricesChecks l n a r []) x .1 g),
-)
-  where
-    same : (c : Check) (b : Bool) → equationRowBy c b .told ≡ told x → checkTold c ≡ told x
-    same Passed b e = e
-    same (Refused s) b e = e
+use Rattle.guards.specs.OnNetwork.{OnNetwork, components, matrixOn, arcsOn}
 
 -- ---- 11: at the first step that does not fit
 
@@ -69,59 +54,99 @@ stops-exactly cs n A R (suc k) (s ∷ steps) = (
     go true p q ih h = (step-fits cs n A R s .0 p, ih (omega arith, omega arith))
     go false p q ih h = absurd (omega arith)
 
+-- no more than all are done
+pub done-most : (cs : List Component) (n : ℕ) (A R : Matrix) (steps : List Step) → doneOf cs n A R steps ≤ length steps
+unfolding doneOf
+done-most cs n A R [] = omega arith
+done-most cs n A R (s ∷ steps) = go (stepFits cs n A R s) (done-most cs n A (step (language cs) n A s R) steps)
+  where
+    go : (b : Bool) → doneOf cs n A (step (language cs) n A s R) steps ≤ length steps → cond b (suc (doneOf cs n A (step (language cs) n A s R) steps)) 0 ≤ suc (length steps)
+    go true h = omega arith
+    go false h = omega arith
+
+-- ---- the row, by what the checks give and the steps that are done
+
+row-whole : (c : Check) (k m : ℕ) → k ≤ m → rowBy c k m .told ≡ done → rowBy c k m .done ≡ m
+row-whole (Refused x) k m h e = absurd (told-not-done x e)
+row-whole Passed k m h e = go (ltb k m) refl e
+  where
+    go : (b : Bool) → ltb k m ≡ b → checkTold (cond b (Refused (Sum 0 k)) Passed) ≡ done → k ≡ m
+    go true p q = absurd (told-not-done (Sum 0 k) q)
+    go false p q = omega (arith, ltb-false k m p)
+
+row-stopped : (c : Check) (k m j : ℕ) → (c ≡ Refused (Sum 0 j) → ⊥) → rowBy c k m .told ≡ told (Sum 0 j) → rowBy c k m .done ≡ j
+row-stopped (Refused x) k m j n e = absurd (n (ap Refused (told-one x (Sum 0 j) e)))
+row-stopped Passed k m j n e = go (ltb k m) e
+  where
+    go : (b : Bool) → checkTold (cond b (Refused (Sum 0 k)) Passed) ≡ told (Sum 0 j) → k ≡ j
+    go true q = ap (λ (t : Told). t .place) q
+    go false q = absurd (told-not-done (Sum 0 j) (sym q))
+
+row-refused : (c : Check) (k m : ℕ) (x : Refusal) → ((j : ℕ) → x ≡ Sum 0 j → ⊥) → rowBy c k m .told ≡ told x → rowBy c k m .done ≡ 0
+row-refused (Refused y) k m x n e = refl
+row-refused Passed k m x n e = go (ltb k m) e
+  where
+    go : (b : Bool) → checkTold (cond b (Refused (Sum 0 k)) Passed) ≡ told x → k ≡ 0
+    go true q = absurd (n k (sym (told-one (Sum 0 k) x q)))
+    go false q = absurd (told-not-done x (sym q))
+
 -- ---- the step call
 
-module _ (l : Language) (n : ℕ) (a r list : List ℕ) where
-  abbrev checks : List Check
-  checks = matricesChecks l n a r (manyCheck list ∷ listCheck n list ∷ [])
+module _ (N : OnNetwork) (r list : List ℕ) where
+  open OnNetwork N using (n)
+
+  abbrev Stops : ℕ → Type 0
+  Stops k = StopsAt (components N) n (arcsOn N) (matrixOn N r) k (map stepOf list)
 
   abbrev count : ℕ
-  count = doneOf (componentsOf l) n (matrixOf l n a) (matrixOf l n r) (map stepOf list)
+  count = countOf N r list
 
-  -- The step call refuses x exactly when one of its checks gives x and all before it pass, or x is 11.
-  pub steps-refuses : (x : Refusal) → (stepsRow l n a r list .told ≡ told x) ↔ (Gives checks x ⊎ StepsOverflow l n a r list x)
-  steps-refuses x = (λ e. there (firstOf checks) refl e, back)
+  stops : (k : ℕ) → ((count ≡ k) × (k < length (map stepOf list))) ↔ Stops k
+  stops k = stops-exactly (components N) n (arcsOn N) (matrixOn N r) k (map stepOf list)
+
+  sum-refuses : (x : Refusal) → ((sumCase N r list) .check ≡ Refused x) ↔ DueIn (sumCase N r list) x
+  sum-refuses x = (λ e. there (ltb count (length list)) refl e, back)
     where
-      ran : firstOf checks ≡ Passed → (b : Bool) → ltb count (length list) ≡ b → cond b (told (Sum 0 count)) done ≡ told x → StepsOverflow l n a r list x
-      ran p true q e = (p, (count, sym (told-one (Sum 0 count) x e), stops-exactly (componentsOf l) n (matrixOf l n a) (matrixOf l n r) count (map stepOf list) .0 (refl, rw (length-steps list) (ltb-true count (length list) q))))
-      ran p false q e = absurd (told-not-done x (sym e))
+      there : (b : Bool) → ltb count (length list) ≡ b → cond b (Refused (Sum 0 count)) Passed ≡ Refused x → DueIn (sumCase N r list) x
+      there true p e = (count, sym (refused-one e), stops count .0 (refl, rw (length-steps list) (ltb-true count (length list) p)))
+      there false p e = absurd (passed-not x e)
 
-      there : (c : Check) → firstOf checks ≡ c → stepsRowBy c count (length list) .told ≡ told x → Gives checks x ⊎ StepsOverflow l n a r list x
-      there Passed p e = inr (ran p (ltb count (length list)) refl e)
-      there (Refused s) p e = inl (first-exactly checks x .0 (p ∙ ap Refused (told-one s x e)))
-
-      stopped : StepsOverflow l n a r list x → stepsRow l n a r list .told ≡ told x
-      stopped (p, (k, q, s)) =
-          let h = stops-exactly (componentsOf l) n (matrixOf l n a) (matrixOf l n r) k (map stepOf list) .1 s in
-          let m : k < length list = rw (length-steps list) at (h .1) in
-          ap (λ (c : Check). stepsRowBy c count (length list) .told) p ∙ ap (λ (m : ℕ). rowAfterRun m (length list) .told) (h .0) ∙ rw (lt-ltb k (length list) m) (ap told (sym q))
-
-      back : Gives checks x ⊎ StepsOverflow l n a r list x → stepsRow l n a r list .told ≡ told x
-      back (inl g) = ap (λ (c : Check). stepsRowBy c count (length list) .told) (first-exactly checks x .1 g)
-      back (inr s) = stopped s
-
-  -- step k is the first that would store a sum above 983,025
-  abbrev Stops : ℕ → Type 0
-  Stops k = StopsAt (componentsOf l) n (matrixOf l n a) (matrixOf l n r) k (map stepOf list)
-
-  -- The step call is done exactly when its checks pass and no step would store such a sum.
-  pub steps-done : (stepsRow l n a r list .told ≡ done) ↔ ((firstOf checks ≡ Passed) × ((k : ℕ) → Stops k → ⊥))
-  steps-done = (λ e. there (firstOf checks) refl e, λ h. ap (λ (c : Check). stepsRowBy c count (length list) .told) (h .0) ∙ all-run (ltb count (length list)) refl (h .1))
-    where
-      stops : (k : ℕ) → ((count ≡ k) × (k < length (map stepOf list))) ↔ Stops k
-      stops k = stops-exactly (componentsOf l) n (matrixOf l n a) (matrixOf l n r) k (map stepOf list)
-
-      none-stops : (b : Bool) → ltb count (length list) ≡ b → cond b (told (Sum 0 count)) done ≡ done → (k : ℕ) → Stops k → ⊥
-      none-stops true q e k s = told-not-done (Sum 0 count) e
-      none-stops false q e k s =
+      back : DueIn (sumCase N r list) x → sumCheck count (length list) ≡ Refused x
+      back (k, q, s) =
           let h = stops k .1 s in
           let m : k < length list = rw (length-steps list) at (h .1) in
-          false≢true (sym q ∙ ap (λ (m : ℕ). ltb m (length list)) (h .0) ∙ lt-ltb k (length list) m)
+          ap (λ (j : ℕ). sumCheck j (length list)) (h .0) ∙ rw (lt-ltb k (length list) m) (ap Refused (sym q))
 
-      there : (c : Check) → firstOf checks ≡ c → stepsRowBy c count (length list) .told ≡ done → (firstOf checks ≡ Passed) × ((k : ℕ) → Stops k → ⊥)
-      there Passed p e = (p, none-stops (ltb count (length list)) refl e)
-      there (Refused x) p e = absurd (told-not-done x e)
+  sum-exact : Exact (sumCase N r list)
+  sum-exact = record { refuses = sum-refuses }
 
-      all-run : (b : Bool) → ltb count (length list) ≡ b → ((k : ℕ) → Stops k → ⊥) → cond b (told (Sum 0 count)) done ≡ done
-      all-run true q f = absurd (f count (stops count .0 (refl, rw (length-steps list) (ltb-true count (length list) q))))
-      all-run false q f = refl
+  steps-exact : AllExact (stepsCases N r list)
+  steps-exact = matrices-exact N r (many-exact list and list-exact n list and no-more)
+
+  -- 01's order, 11 last
+  pub steps-numbers : refusalNumbers (runningCases N r list) ≡ 3 ∷ 5 ∷ 4 ∷ 9 ∷ 9 ∷ 10 ∷ 10 ∷ 6 ∷ 6 ∷ 13 ∷ 7 ∷ 11 ∷ []
+  steps-numbers = refl
+
+  -- Each refusal exactly where it is due, 11 among them, and done exactly where none is.
+  pub steps-told : ToldExactly (runningCases N r list) (stepsRow N r list .told)
+  steps-told = told-exactly (runningCases N r list)
+      (matrices-exact N r (many-exact list and list-exact n list and sum-exact and no-more))
+      (stepsRow N r list .told) refl
+
+  -- 11 at step k exactly where no check refuses and step k is the first that would store a sum above 983,025
+  pub steps-sum : (k : ℕ) → (stepsRow N r list .told ≡ told (Sum 0 k)) ↔ ((stepsCheck N r list ≡ Passed) × Stops k)
+  steps-sum k =
+      let only = only-at 11 (runningCases N r list) (Sum 0 k) (λ place. refl) in
+      let passes = passes-exactly (stepsCases N r list) steps-exact in
+      (λ e. let h = only .0 (steps-told .refused (Sum 0 k) .0 e) in (passes .1 (h .0), there (h .1)), λ (p, s). steps-told .refused (Sum 0 k) .1 (only .1 (passes .0 p, (k, refl, s))))
+    where
+      there : DueIn (sumCase N r list) (Sum 0 k) → Stops k
+      there (j, q, s) = let e : j ≡ k = sym (ap (λ (z : Refusal). told z .place) q) in subst Stops e s
+
+  -- The steps done: all, or those before the one that is refused 11, or none.
+  pub steps-counted : StepsCounted list (stepsRow N r list)
+  steps-counted = subst (StepsCounted list) (sym (row-by N r list refl)) (record {
+    whole = row-whole (stepsCheck N r list) count (length list) (subst (λ (m : ℕ). count ≤ m) (length-steps list) (done-most (components N) n (arcsOn N) (matrixOn N r) (map stepOf list)));
+    stopped = λ k. row-stopped (stepsCheck N r list) count (length list) k (λ e. never-due (stepsCases N r list) (Sum 0 k) (λ p. refl) (refuses-exactly (stepsCases N r list) steps-exact (Sum 0 k) .0 e));
+    refused = row-refused (stepsCheck N r list) count (length list);
+  })

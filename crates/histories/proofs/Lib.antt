@@ -2,6 +2,5 @@ pub mod Reached
 pub mod Over
 pub mod Histories
 pub mod Exact
-pub mod Cases
 pub mod Standing
 pub mod Worked

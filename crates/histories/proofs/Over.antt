@@ -16,7 +16,7 @@ use Rattle.weights.proofs.Ordering.{clash}
 use Rattle.matrices.specs.Steps.{Matrix, sumFits, sumsFit, weightFits, every, rowFits}
 use Rattle.matrices.proofs.Every.{every-false}
 use Rattle.routes.specs.Calls.{stepFits}
-use Rattle.histories.specs.Exact.{IsSum, SumOver, WeightOver, RowOver, StepOver}
+use Rattle.routes.specs.Stops.{IsSum, SumOver, WeightOver, RowOver, StepOver}
 
 -- one of two tests fails
 neither : (a b : Bool) → (a && b) ≡ false → (a ≡ false) ⊎ (b ≡ false)

@@ -11,14 +11,12 @@ use Rattle.refusals.specs.declared.Refusal.the-variants.{Sum}
 use Rattle.refusals.specs.declared.Check.{Check}
 use Rattle.refusals.specs.declared.Check.the-variants.{Passed, Refused}
 use Rattle.refusals.specs.Told.{told, done}
-use Rattle.refusals.specs.Checks.{Pass}
+use Rattle.refusals.specs.Checks.{Pass, ifPassed}
 use Rattle.refusals.proofs.First.{first-passes, pass-first}
 use Rattle.algebra.specs.Step.{Step, step}
 use Rattle.weights.specs.declared.Component.{Component}
-use Rattle.weights.specs.declared.Language.{Language}
 use Rattle.weights.specs.Sizes.{places, matrixSum}
 use Rattle.weights.specs.Weights.{language}
-use Rattle.weights.specs.Languages.{componentsOf}
 use Rattle.weights.specs.Words.{words}
 use Rattle.weights.proofs.Checking.{few}
 use Rattle.weights.proofs.Padding.{words-pad}
@@ -27,17 +25,19 @@ use Rattle.matrices.specs.Steps.{Matrix}
 use Rattle.matrices.proofs.Blocks.{blocks-cong}
 use Rattle.matrices.proofs.Entries.{matrix-self}
 use Rattle.matrices.proofs.Malformed.{check-formed}
-use Rattle.guards.specs.Checks.{mostSteps, manyCheck, listCheck}
-use Rattle.routes.specs.Calls.{matrixOf, matricesChecks, stepOf, runOf, doneOf, stepsCheck, rowAfterRun, stepsRowBy, stepsRow, stepsLeftBy, stepsLeft}
+use Rattle.guards.specs.Checks.{mostSteps, manyCase, listCase}
+use Rattle.routes.specs.Calls.{stepOf, runOf, doneOf, stepsCheck, stepsRow, stepsLeft, matricesCases, stepsCases}
 use Rattle.routes.specs.Ready.{AllSteps}
 use Rattle.guards.proofs.Singles.{nodes-passed, length-passed}
 use Rattle.routes.proofs.Lists.{list-passed, passed-list, all-front}
 use Rattle.routes.proofs.Bridge.{entry-padded}
-use Rattle.histories.specs.Exact.{StopsAt}
 use Rattle.histories.proofs.Reached.{length-steps}
 use Rattle.histories.proofs.Over.{step-over, step-fits}
-use Rattle.histories.proofs.Exact.{stops-exactly}
-use Rattle.histories.proofs.Cases.{steps-sum}
+use Rattle.histories.proofs.Exact.{stops-exactly, steps-sum}
+use Rattle.routes.specs.Stops.{StopsAt}
+use Rattle.refusals.specs.Cases.{Case, checksOf}
+use Rattle.routes.proofs.Answers.{row-by, rowBy}
+use Rattle.guards.specs.OnNetwork.{OnNetwork, components, matrixOn, arcsOn}
 
 -- a well-formed buffer is the words of the matrix that it holds
 pub words-self : (cap : ℕ) (cs : List Component) (n : ℕ) (s : List ℕ) → length cs ≤ places → Formed cap cs n s → matrixWords n (matrixIn (length cs) n s) ≡ s
@@ -46,18 +46,18 @@ words-self cap cs n s h f =
     ∙ matrix-self n s (f .square)
 
 -- where the checks of a call on A and R pass, R is well formed
-pub routes-formed : (l : Language) (n : ℕ) (a r : List ℕ) (rest : List Check) → Pass (matricesChecks l n a r rest) → Formed matrixSum (componentsOf l) n r
-routes-formed l n a r rest p =
-    check-formed 2 matrixSum (componentsOf l) n r (length-passed 2 n r (nodes-passed n (p .0) .1) (p .1 .1 .1 .1 .0)) (p .1 .1 .1 .1 .1 .1 .1 .1 .0)
+pub routes-formed : (N : OnNetwork) (r : List ℕ) (rest : List Case) → Pass (checksOf (matricesCases N r rest)) → Formed matrixSum (components N) (N .n) r
+routes-formed N r rest p =
+    check-formed 2 matrixSum (components N) (N .n) r (length-passed 2 (N .n) r (nodes-passed (N .n) (p .0) .1) (p .1 .1 .1 .1 .0)) (p .1 .1 .1 .1 .1 .1 .1 .1 .0)
 
 -- ---- an empty list
 
-pub nothing-changes : (l : Language) (n : ℕ) (a r : List ℕ) → stepsLeft l n a r [] ≡ r
+pub nothing-changes : (N : OnNetwork) (r : List ℕ) → stepsLeft N r [] ≡ r
 unfolding runOf
-nothing-changes l n a r = go (stepsCheck l n a r []) refl
+nothing-changes N r = go (stepsCheck N r []) refl
   where
-    go : (c : Check) → stepsCheck l n a r [] ≡ c → stepsLeftBy c n (matrixOf l n r) r ≡ r
-    go Passed e = words-self matrixSum (componentsOf l) n r (few l) (routes-formed l n a r (manyCheck [] ∷ listCheck n [] ∷ []) (first-passes (matricesChecks l n a r (manyCheck [] ∷ listCheck n [] ∷ [])) e))
+    go : (c : Check) → stepsCheck N r [] ≡ c → ifPassed c (matrixWords (N .n) (matrixOn N r)) r ≡ r
+    go Passed e = words-self matrixSum (components N) (N .n) r (few (N .language)) (routes-formed N r (manyCase [] ∷ listCase (N .n) [] ∷ []) (first-passes (checksOf (stepsCases N r [])) e))
     go (Refused x) e = refl
 
 -- ---- 11
@@ -79,48 +79,50 @@ stops-done cs n A R k [] s = absurd s
 stops-done cs n A R zero (s ∷ steps) h = refl
 stops-done cs n A R (suc k) (s ∷ steps) h = rw (step-fits cs n A R s .1 (h .0)) (ap suc (stops-done cs n A (step (language cs) n A s R) k steps (h .1)))
 
-module _ (l : Language) (n : ℕ) (a r list : List ℕ) (k : ℕ) (e : stepsRow l n a r list .told ≡ told (Sum 0 k)) where
+module _ (N : OnNetwork) (r list : List ℕ) (k : ℕ) (e : stepsRow N r list .told ≡ told (Sum 0 k)) where
+  open OnNetwork N using (n)
+
   abbrev cs : List Component
-  cs = componentsOf l
+  cs = components N
 
   abbrev A : Matrix
-  A = matrixOf l n a
+  A = arcsOn N
 
   abbrev R : Matrix
-  R = matrixOf l n r
+  R = matrixOn N r
 
-  passes : stepsCheck l n a r list ≡ Passed
-  passes = steps-sum l n a r list k .0 e .0
+  passes : stepsCheck N r list ≡ Passed
+  passes = steps-sum N r list k .0 e .0
 
   stops : StopsAt cs n A R k (map stepOf list)
-  stops = steps-sum l n a r list k .0 e .1
+  stops = steps-sum N r list k .0 e .1
 
   below : k < length list
   below = rw (length-steps list) at (stops-exactly cs n A R k (map stepOf list) .1 stops .1)
 
-  front : stepsCheck l n a r (take k list) ≡ Passed
+  front : stepsCheck N r (take k list) ≡ Passed
   front =
-      let p = first-passes (matricesChecks l n a r (manyCheck list ∷ listCheck n list ∷ [])) passes in
-      let q = list-passed n list (pass-first (manyCheck list ∷ listCheck n list ∷ []) (p .1 .1 .1 .1 .1 .1 .1 .1 .1)) in
+      let p = first-passes (checksOf (stepsCases N r list)) passes in
+      let q = list-passed n list (pass-first (manyCase list .check ∷ listCase n list .check ∷ []) (p .1 .1 .1 .1 .1 .1 .1 .1 .1)) in
       let len : length (take k list) ≡ k = length-take-le k list (omega (arith, below)) in
       let all : AllSteps n (take k list) = all-front n (take k list) (drop k list) (subst (AllSteps n) (sym (take-append-drop k list)) (q .1)) in
       let few : length (take k list) ≤ mostSteps = omega (arith, below, q .0) in
-      let m = first-passes (manyCheck (take k list) ∷ listCheck n (take k list) ∷ []) (passed-list n (take k list) few all) in
-      pass-first (matricesChecks l n a r (manyCheck (take k list) ∷ listCheck n (take k list) ∷ []))
+      let m = first-passes (manyCase (take k list) .check ∷ listCase n (take k list) .check ∷ []) (passed-list n (take k list) few all) in
+      pass-first (checksOf (stepsCases N r (take k list)))
       (p .0, (p .1 .0, (p .1 .1 .0, (p .1 .1 .1 .0, (p .1 .1 .1 .1 .0, (p .1 .1 .1 .1 .1 .0, (p .1 .1 .1 .1 .1 .1 .0, (p .1 .1 .1 .1 .1 .1 .1 .0, (p .1 .1 .1 .1 .1 .1 .1 .1 .0, m)))))))))
 
   -- the call with the first k steps is done ..
-  pub first-done : stepsRow l n a r (take k list) ≡ record { told = done; done = k }
+  pub first-done : stepsRow N r (take k list) ≡ record { told = done; done = k }
   first-done =
       let len : length (take k list) ≡ k = length-take-le k list (omega (arith, below)) in
-      ap (λ (c : Check). stepsRowBy c (doneOf cs n A R (map stepOf (take k list))) (length (take k list))) front
-      ∙ ap (λ (m : ℕ). rowAfterRun (doneOf cs n A R (map stepOf (take k list))) m) len
-      ∙ ap (λ (m : ℕ). rowAfterRun m k) (ap (doneOf cs n A R) (map-take k list) ∙ stops-done cs n A R k (map stepOf list) stops)
+      row-by N r (take k list) front
+      ∙ ap (λ (m : ℕ). rowBy Passed (doneOf cs n A R (map stepOf (take k list))) m) len
+      ∙ ap (λ (m : ℕ). rowBy Passed m k) (ap (doneOf cs n A R) (map-take k list) ∙ stops-done cs n A R k (map stepOf list) stops)
       ∙ rw (le-ltb k k (omega arith))
 
   -- .. and leaves what the call that is refused 11 at step k leaves
-  pub stopped-leaves : stepsLeft l n a r list ≡ stepsLeft l n a r (take k list)
+  pub stopped-leaves : stepsLeft N r list ≡ stepsLeft N r (take k list)
   stopped-leaves =
-      ap (λ (c : Check). stepsLeftBy c n (runOf cs n A R (map stepOf list)) r) passes
+      ap (λ (c : Check). ifPassed c (matrixWords n (runOf cs n A R (map stepOf list))) r) passes
       ∙ ap (matrixWords n) (stops-run cs n A R k (map stepOf list) stops ∙ ap (runOf cs n A R) (sym (map-take k list)))
-      ∙ sym (ap (λ (c : Check). stepsLeftBy c n (runOf cs n A R (map stepOf (take k list))) r) front)
+      ∙ sym (ap (λ (c : Check). ifPassed c (matrixWords n (runOf cs n A R (map stepOf (take k list)))) r) front)

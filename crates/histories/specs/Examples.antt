@@ -12,6 +12,7 @@ use Rattle.weights.specs.Weights.{Weight, none, route, language}
 use Rattle.weights.specs.Languages.{componentsOf}
 use Rattle.matrices.specs.Buffers.{matrixWords}
 use Rattle.matrices.specs.Steps.{Matrix}
+use Rattle.guards.specs.OnNetwork.{OnNetwork, onNetwork}
 
 -- the matrix with these rows
 abbrev pub written : List (List Weight) → Matrix
@@ -41,9 +42,9 @@ depotRoutes = written ((ten ∷ ten ∷ ten ∷ []) ∷ (ten ∷ ten ∷ ten ∷
 abbrev pub depotLanguage : Language
 depotLanguage = record { count = 1; first = Width 10; second = Dist; third = Dist; fourth = Dist }
 
--- the words of the depots' arcs
-abbrev pub depotArcWords : List ℕ
-depotArcWords = matrixWords 3 depotArcs
+-- the depots' network: width 10, three nodes and these arcs
+abbrev pub depots : OnNetwork
+depots = onNetwork depotLanguage 3 (matrixWords 3 depotArcs)
 
 -- the words of the matrix that satisfies the equation and is not the best
 abbrev pub depotRouteWords : List ℕ

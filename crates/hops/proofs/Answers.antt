@@ -10,29 +10,31 @@ use lib.ListN.{length}
 use Rattle.refusals.specs.declared.Refusal.{Refusal}
 use Rattle.refusals.specs.declared.Check.{Check}
 use Rattle.refusals.specs.declared.Check.the-variants.{Passed, Refused}
-use Rattle.refusals.specs.Checks.{firstOf}
+use Rattle.refusals.specs.Checks.{orElse, checkTold, ifPassed}
+use Rattle.refusals.specs.Cases.{Case}
+use Rattle.refusals.proofs.First.{both-pass}
 use Rattle.algebra.proofs.Embedding.{Goes, GoesTo, join-goes}
 use Rattle.weights.specs.declared.Component.{Component}
-use Rattle.weights.specs.declared.Language.{Language}
 use Rattle.weights.specs.declared.Places.{Places}
 use Rattle.weights.specs.Sizes.{places, arcSum, matrixSum}
 use Rattle.weights.specs.Weights.{Weight, Valid, Sound, language}
-use Rattle.weights.specs.Languages.{componentsOf, padded, placesOf}
+use Rattle.weights.specs.Languages.{padded, placesOf}
 use Rattle.weights.specs.Values.{same}
 use Rattle.weights.proofs.Padding.{padWeight}
 use Rattle.weights.proofs.Checking.{few}
 use Rattle.matrices.specs.Buffers.{matrixIn}
 use Rattle.matrices.specs.Steps.{Matrix, Given}
-use Rattle.guards.specs.Checks.{nodeCheck}
-use Rattle.routes.specs.Calls.{matrixOf, matricesChecks}
-use Rattle.routes.specs.Ready.{Passing}
+use Rattle.guards.specs.Checks.{nodeCase}
+use Rattle.routes.specs.Calls.{equationCheck}
 use Rattle.routes.proofs.Bridge.{buffer-goes, embedded, same-padded}
-use Rattle.routes.proofs.Order.{stops, goes-on, passed-both, matrices-rest, passing-sound}
+use Rattle.routes.proofs.Order.{rest-stops, rest-goes-on, two-checks, placed-sound}
 use Rattle.guards.proofs.Singles.{node-passed}
 use Rattle.hops.specs.declared.HopFound.{HopFound}
 use Rattle.hops.specs.declared.HopAnswer.the-variants.{Refused as HopRefused}
 use Rattle.hops.specs.NextHop.{isHop, lowestFrom, hopOf, foundAt}
-use Rattle.hops.specs.Calls.{hopCheck, hopRowBy, hopRow, hopSaid}
+use Rattle.hops.specs.Calls.{hopCheck, HopRow, hopRow, hopSaid}
+use Rattle.guards.specs.OnNetwork.{OnNetwork, components, matrixOn, arcsOn}
+use Rattle.guards.specs.Entrance.{Placed}
 
 -- ---- in the places and in the language
 
@@ -57,31 +59,40 @@ module _ (cs : List Component) (p : Places) (h : length cs ≤ places) (placed :
 
 -- ---- the call
 
-module _ (l : Language) (n : ℕ) (a r : List ℕ) (i j : ℕ) where
-  abbrev pair : Check
-  pair = firstOf (nodeCheck 0 n i ∷ nodeCheck 1 n j ∷ [])
+-- the row by what the checks give
+abbrev pub hopRowBy : Check → Option ℕ → HopRow
+hopRowBy c k = record { told = checkTold c; node = ifPassed c k nothing }
+
+module _ (N : OnNetwork) (r : List ℕ) (i j : ℕ) where
+  open OnNetwork N using (n, arcs)
+
+  abbrev pair : List Case
+  pair = nodeCase 0 n i ∷ nodeCase 1 n j ∷ []
 
   abbrev rule : Option ℕ
-  rule = hopOf (componentsOf l) n (matrixOf l n a) (matrixOf l n r) i j
+  rule = hopOf (components N) n (arcsOn N) (matrixOn N r) i j
 
-  by-check : (c : Check) → hopCheck l n a r i j ≡ c → hopRowBy c rule ≡ hopRow l n a r i j
+  by-check : (c : Check) → hopCheck N r i j ≡ c → hopRowBy c rule ≡ hopRow N r i j
   by-check c e = ap (λ (c : Check). hopRowBy c rule) (sym e)
 
-  pub refused-before : (x : Refusal) → firstOf (matricesChecks l n a r []) ≡ Refused x → hopSaid (HopRefused x) ≡ hopRow l n a r i j
-  refused-before x e = by-check (Refused x) (matrices-rest l n a r (nodeCheck 0 n i ∷ nodeCheck 1 n j ∷ []) ∙ stops _ e)
+  pub refused-before : (x : Refusal) → equationCheck N r ≡ Refused x → hopSaid (HopRefused x) ≡ hopRow N r i j
+  refused-before x e = by-check (Refused x) (rest-stops N r pair e)
 
-  module _ (e : firstOf (matricesChecks l n a r []) ≡ Passed) where
-    pub pair-refused : (x : Refusal) → pair ≡ Refused x → hopSaid (HopRefused x) ≡ hopRow l n a r i j
-    pair-refused x q = by-check (Refused x) (matrices-rest l n a r (nodeCheck 0 n i ∷ nodeCheck 1 n j ∷ []) ∙ goes-on e q)
+  module _ (e : equationCheck N r ≡ Passed) {first second both : Check} (qi : first ≡ nodeCase 0 n i .check) (qj : second ≡ nodeCase 1 n j .check) (q : both ≡ orElse first second) where
+    pair-first : {c : Check} → both ≡ c → hopCheck N r i j ≡ c
+    pair-first h = rest-goes-on N r pair e (sym (two-checks (nodeCase 0 n i .check) (nodeCase 1 n j .check) qi qj) ∙ sym q ∙ h)
 
-    module _ (p : Places) (o : Passing l n p) (g : Given (placesOf p) n a r) (q : pair ≡ Passed) where
+    pub pair-refused : (x : Refusal) → both ≡ Refused x → hopSaid (HopRefused x) ≡ hopRow N r i j
+    pair-refused x h = by-check (Refused x) (pair-first h)
+
+    module _ (p : Places) (o : Placed (N .language) p) (g : Given (placesOf p) n arcs r) (passed : both ≡ Passed) where
       pub pair-in : (i < n) × (j < n)
-      pair-in = let h = passed-both (nodeCheck 0 n i) (nodeCheck 1 n j) q in (node-passed 0 n i (h .0), node-passed 1 n j (h .1))
+      pair-in = let h = both-pass first second (sym q ∙ passed) in (node-passed 0 n i (sym qi ∙ h .0), node-passed 1 n j (sym qj ∙ h .1))
 
       -- what the search found is the answer's node
-      pub found-row : (f : HopFound) → foundAt f ≡ hopOf (placesOf p) n (matrixIn places n a) (matrixIn places n r) i j → hopRowBy Passed (foundAt f) ≡ hopRow l n a r i j
-      found-row f e₁ =
-          let s = passing-sound l n p o in
-          ap (hopRowBy Passed) (e₁ ∙ hop-goes (componentsOf l) p (few l) (o .placed) s n (matrixOf l n a) (matrixIn places n a) (matrixOf l n r) (matrixIn places n r)
-          (buffer-goes (componentsOf l) p (few l) (o .placed) s n a arcSum a (g .arcs)) (buffer-goes (componentsOf l) p (few l) (o .placed) s n a matrixSum r (g .routes)) i j (pair-in .0) (pair-in .1))
-          ∙ by-check Passed (matrices-rest l n a r (nodeCheck 0 n i ∷ nodeCheck 1 n j ∷ []) ∙ goes-on e q)
+      pub found-row : (f : HopFound) → foundAt f ≡ hopOf (placesOf p) n (matrixIn places n arcs) (matrixIn places n r) i j → hopRowBy Passed (foundAt f) ≡ hopRow N r i j
+      found-row f found =
+          let s = placed-sound (N .language) p o in
+          ap (hopRowBy Passed) (found ∙ hop-goes (components N) p (few (N .language)) (o .placed) s n (arcsOn N) (matrixIn places n arcs) (matrixOn N r) (matrixIn places n r)
+          (buffer-goes (components N) p (few (N .language)) (o .placed) s n arcs arcSum arcs (g .arcs)) (buffer-goes (components N) p (few (N .language)) (o .placed) s n arcs matrixSum r (g .routes)) i j (pair-in .0) (pair-in .1))
+          ∙ by-check Passed (pair-first passed)

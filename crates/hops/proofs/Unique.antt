@@ -6,7 +6,6 @@ use mathlib.Core.Option.{Option, some, none as nothing}
 use native.Mathlib.Omega.{arith}
 use Rattle.refusals.proofs.OneToOne.{told-one, told-not-done}
 use Rattle.numbers.specs.declared.Node.{Node}
-use Rattle.weights.specs.declared.Language.{Language}
 use Rattle.hops.specs.declared.HopFound.{HopFound}
 use Rattle.hops.specs.declared.HopFound.the-variants.{At, Nothing}
 use Rattle.hops.specs.declared.HopAnswer.{HopAnswer}
@@ -14,6 +13,7 @@ use Rattle.hops.specs.declared.HopAnswer.the-variants.{Hop, NoHop, Refus
 use Rattle.hops.specs.NextHop.{foundAt}
 use Rattle.hops.specs.Calls.{HopRow, hopRow, hopSaid}
 use Rattle.hops.proofs.Rule.{some-one}
+use Rattle.guards.specs.OnNetwork.{OnNetwork}
 
 node-one : (k m : Node) → k .0 ≡ m .0 → k ≡ m
 node-one k m e = λ i. record { 0 = e i }
@@ -38,5 +38,5 @@ hop-one (HopRefused r) (Hop m) e = absurd (told-not-done r (ap (λ (w : HopRow).
 hop-one (HopRefused r) NoHop e = absurd (told-not-done r (ap (λ (w : HopRow). w .told) e))
 hop-one (HopRefused r) (HopRefused s) e = ap HopRefused (told-one r s (ap (λ (w : HopRow). w .told) e))
 
-pub hop-answers-equal : (l : Language) (n : ℕ) (a r : List ℕ) (i j : ℕ) (x y : HopAnswer) → hopSaid x ≡ hopRow l n a r i j → hopSaid y ≡ hopRow l n a r i j → x ≡ y
-hop-answers-equal l n a r i j x y p q = hop-one x y (p ∙ sym q)
+pub hop-answers-equal : (N : OnNetwork) (r : List ℕ) (i j : ℕ) (x y : HopAnswer) → hopSaid x ≡ hopRow N r i j → hopSaid y ≡ hopRow N r i j → x ≡ y
+hop-answers-equal N r i j x y p q = hop-one x y (p ∙ sym q)

@@ -1,3 +1,2 @@
 pub mod NextHop
 pub mod Calls
-pub mod Exact

@@ -2,33 +2,29 @@
 -- weights that break it; each refusal is given exactly in its case; two answers that meet the contract are equal.
 use Prim.Native.Nat.{ℕ, _≤_}
 use mathlib.Core.Path.{_≡_, refl, sym, ap, _∙_}
-use mathlib.Core.Bool.{Bool, true, false, _&&_}
-use mathlib.Core.List.{List, [], _∷_}
-use mathlib.Core.Logic.{inl, inr, _↔_}
-use native.Mathlib.Omega.{arith}
-use lib.Dec.{leb}
-use Rattle.refusals.specs.declared.Refusal.{Refusal}
-use Rattle.refusals.specs.declared.Refusal.the-variants.{BadComponent, BadCount}
+use mathlib.Core.Bool.{Bool, true, false}
+use mathlib.Core.List.{List, []}
+use mathlib.Core.Logic.{_↔_}
 use Rattle.refusals.specs.Told.{told, done}
 use Rattle.refusals.specs.declared.Check.{Check}
 use Rattle.refusals.specs.declared.Check.the-variants.{Passed, Refused}
 use Rattle.refusals.proofs.OneToOne.{told-one, told-not-done}
-use Rattle.refusals.specs.Checks.{Gives}
-use Rattle.refusals.proofs.First.{first-exactly}
-use Rattle.refusals.proofs.Exactly.{unless-refuses}
+use Rattle.refusals.specs.Checks.{checkTold}
+use Rattle.refusals.specs.Cases.{ToldExactly}
+use Rattle.refusals.proofs.Cases.{told-exactly}
 use Rattle.weights.specs.declared.Language.{Language}
 use Rattle.weights.specs.Sizes.{places}
-use Rattle.weights.specs.Weights.{Sound, SoundLimit, route, unit, unitValues}
+use Rattle.weights.specs.Weights.{Sound, route, unit, unitValues}
 use Rattle.weights.specs.Laws.{LawD, LawU, LawC, testD, testU, testC, sD, xD, yD, xU, sC, BreaksD, BreaksU, BreaksC}
-use Rattle.weights.specs.Languages.{componentsOf, countCheck, limitCheck, languageCheck, CountInRange, FirstNot}
+use Rattle.weights.specs.Languages.{componentsOf, languageCases, languageCheck}
 use Rattle.weights.proofs.Decided.{D-exact, U-exact, C-exact, D-broken, U-broken, C-broken}
 use Rattle.weights.proofs.Checking.{check-sound, sound-count, count-in, limits-exact}
-use Rattle.weights.proofs.Cases.{count-case, count-passes, limit-case, limit-told}
+use Rattle.weights.proofs.Cases.{language-exact}
 use Rattle.laws.specs.declared.Words.{Words}
 use Rattle.laws.specs.declared.Law.{Law}
 use Rattle.laws.specs.declared.LawAnswer.{LawAnswer}
 use Rattle.laws.specs.declared.LawAnswer.the-variants.{Laws, Refused as NoLaws}
-use Rattle.laws.specs.Verdicts.{Shown, LawsHold, LawsRefusals}
+use Rattle.laws.specs.Verdicts.{Shown, LawsHold}
 use Rattle.laws.specs.Report.{LawRow, Report, lawRow, lawsOf, reportOf, report, fourWords, lawOf, answerRow}
 
 -- ---- the verdicts, of a language that passes its checks
@@ -97,35 +93,13 @@ answer-laws l d u c e =
 
 -- ---- the refusals
 
--- the report refuses r exactly when check 5, or after it check 4, gives r
-pub refused-exactly : (l : Language) (r : Refusal) → (report l .told ≡ told r) ↔ Gives (countCheck l ∷ limitCheck l ∷ []) r
-refused-exactly l r = (λ e. first-exactly (countCheck l ∷ limitCheck l ∷ []) r .0 (there (languageCheck l) refl e), λ g. ap (λ (k : Check). reportOf k (componentsOf l) .told) (first-exactly (countCheck l ∷ limitCheck l ∷ []) r .1 g))
+-- Each refusal exactly where it is due, and the laws exactly where none is.
+pub laws-told : (l : Language) → ToldExactly (languageCases l) (report l .told)
+laws-told l = told-exactly (languageCases l) (language-exact l) (report l .told) (tells (languageCheck l))
   where
-    there : (k : Check) → languageCheck l ≡ k → reportOf k (componentsOf l) .told ≡ told r → languageCheck l ≡ Refused r
-    there Passed p e = absurd (told-not-done r (sym e))
-    there (Refused q) p e = p ∙ ap Refused (told-one q r e)
-
--- what check 5 refuses is 5
-count-told : (l : Language) (r : Refusal) → countCheck l ≡ Refused r → told r .number ≡ 5
-count-told l r e = sym (ap (λ (z : Refusal). told z .number) (unless-refuses (leb 1 (l .count) && leb (l .count) places) (BadCount 0 0) r e .1))
-
--- Each refusal exactly in its case, in words, and the laws exactly where there is none.
-pub laws-refusals : (l : Language) → LawsRefusals l (report l .told)
-laws-refusals l = record {
-  count = (λ e. five (refused-exactly l (BadCount 0 0) .0 e), λ f. refused-exactly l (BadCount 0 0) .1 (inl (count-case l .1 f)));
-  limits = λ k. (λ e. four k (refused-exactly l (BadComponent 0 k) .0 e), λ (c, f). refused-exactly l (BadComponent 0 k) .1 (inr (count-passes l .1 c, inl (limit-case l k .1 f))));
-  passes = (λ e. let h = laws-exactly l .0 e in ((h .0, h .1), h .2), λ (c, s). laws-exactly l .1 (c .0, c .1, s));
-}
-  where
-    five : Gives (countCheck l ∷ limitCheck l ∷ []) (BadCount 0 0) → CountInRange l → ⊥
-    five (inl e) = count-case l .0 e
-    five (inr (p, inl q)) = let z : _≡_ {A = ℕ} 5 4 = limit-told (componentsOf l) (BadCount 0 0) q in absurd (omega arith)
-    five (inr (p, inr (q, b))) = absurd b
-
-    four : (k : ℕ) → Gives (countCheck l ∷ limitCheck l ∷ []) (BadComponent 0 k) → CountInRange l × FirstNot SoundLimit k (componentsOf l)
-    four k (inl e) = let z : _≡_ {A = ℕ} 4 5 = count-told l (BadComponent 0 k) e in absurd (omega arith)
-    four k (inr (p, inl q)) = (count-passes l .0 p, limit-case l k .0 q)
-    four k (inr (p, inr (q, b))) = absurd b
+    tells : (k : Check) → reportOf k (componentsOf l) .told ≡ checkTold k
+    tells Passed = refl
+    tells (Refused r) = refl
 
 -- ---- two answers with one row are equal
 

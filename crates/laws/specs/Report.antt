@@ -6,7 +6,6 @@ use mathlib.Core.List.{List, [], _∷_}
 use Rattle.refusals.specs.declared.Told.{Told}
 use Rattle.refusals.specs.Told.{told, done}
 use Rattle.refusals.specs.declared.Check.{Check}
-use Rattle.refusals.specs.declared.Check.the-variants.{Passed, Refused}
 use Rattle.weights.specs.declared.Component.{Component}
 use Rattle.weights.specs.declared.Language.{Language}
 use Rattle.weights.specs.Sizes.{weightWords}
@@ -18,6 +17,7 @@ use Rattle.laws.specs.declared.Words.{Words}
 use Rattle.laws.specs.declared.Law.{Law}
 use Rattle.laws.specs.declared.LawAnswer.{LawAnswer}
 use Rattle.laws.specs.declared.LawAnswer.the-variants.{Laws, Refused as NoLaws}
+use Rattle.refusals.specs.Checks.{checkTold, ifPassed}
 
 -- One law of the report: held or not, and the words of s, x and y.
 pub record LawRow : Type 0 where
@@ -65,8 +65,7 @@ lawsOf cs = record {
 
 -- on refusal every other field is zero
 abbrev pub reportOf : Check → List Component → Report
-reportOf Passed cs = lawsOf cs
-reportOf (Refused r) cs = record { told = told r; lawD = untold; lawU = untold; lawC = untold }
+reportOf c cs = ifPassed c (lawsOf cs) (record { told = checkTold c; lawD = untold; lawU = untold; lawC = untold })
 
 -- The law report of a language.
 abbrev pub report : Language → Report

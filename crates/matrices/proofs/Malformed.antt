@@ -12,14 +12,16 @@ use Rattle.refusals.specs.declared.Refusal.the-variants.{Value}
 use Rattle.refusals.specs.declared.Check.{Check}
 use Rattle.refusals.specs.declared.Check.the-variants.{Passed, Refused}
 use Rattle.refusals.proofs.First.{passed-not}
+use Rattle.refusals.proofs.Cases.{Exact}
 use Rattle.weights.specs.declared.Component.{Component}
 use Rattle.weights.specs.declared.Read.{Read}
 use Rattle.weights.specs.declared.Read.the-variants.{Good, Malformed}
 use Rattle.weights.specs.declared.Weight as declared
 use Rattle.weights.specs.Sizes.{weightWords}
 use Rattle.weights.specs.Words.{reading, readOf}
-use Rattle.matrices.specs.Buffers.{entryPlace, wellFormed, firstMalformed, matrixCheck, Square, Formed, AtFirst}
+use Rattle.matrices.specs.Buffers.{entryPlace, wellFormed, firstMalformed, entriesCase, matrixCheck, Square, Formed, AtFirstMalformed}
 use Rattle.weights.specs.Words.{isGood}
+use Rattle.refusals.specs.Cases.{DueIn}
 
 -- ---- one entry further
 
@@ -159,16 +161,7 @@ read-bad cap cs ws r e q = ap isGood (sym e) ∙ ap (λ (r : Read). isGood (read
 pub read-good : (cap : ℕ) (cs : List Component) (ws : List ℕ) (r : Read) (w : declared.Weight) → readOf r ≡ reading cap cs ws → r ≡ Good w → isGood (reading cap cs ws) ≡ true
 read-good cap cs ws r w e q = ap isGood (sym e) ∙ ap (λ (r : Read). isGood (readOf r)) q
 
-module _ (which cap : ℕ) (cs : List Component) (n : ℕ) (s : List ℕ) (square : Square n s) where
-  -- what passes is well-formed
-  pub check-formed : matrixCheck which cap cs n s ≡ Passed → Formed cap cs n s
-  check-formed e = record {
-    square = square;
-    reads = λ i j hi hj. subst (λ (k : ℕ). wellFormed cap cs s k ≡ true) (place-is n i j)
-        (let z : 0 + (i * n + j) ≡ i * n + j = omega arith in
-        subst (λ (k : ℕ). wellFormed cap cs s (k * weightWords) ≡ true) z (passes-all (wellFormed cap cs s) weightWords which (n * n) 0 e (i * n + j) (entry-below n i j hi hj)));
-  }
-
+module _ (which cap : ℕ) (cs : List Component) (n : ℕ) (s : List ℕ) where
   -- entry m of the buffer is entry (m / n, m % n) of the matrix
   record Found (m : ℕ) : Type 0 where
     row : ℕ
@@ -195,20 +188,12 @@ module _ (which cap : ℕ) (cs : List Component) (n : ℕ) (s : List ℕ) (squar
       positive zero h = absurd (omega arith)
       positive (suc n) h = omega arith
 
-  -- .. and back
-  pub formed-check : Formed cap cs n s → matrixCheck which cap cs n s ≡ Passed
-  formed-check f = all-passes (wellFormed cap cs s) weightWords which (n * n) 0
-      (λ m h. let g : Found m = found m h in subst (λ (k : ℕ). wellFormed cap cs s k ≡ true) (sym (g .same)) (f .reads (g .row) (g .column) (g .row-below) (g .column-below)))
-
-  pub check-exactly : (matrixCheck which cap cs n s ≡ Passed) ↔ Formed cap cs n s
-  check-exactly = (check-formed, formed-check)
-
   -- it refuses exactly at the first malformed entry
-  pub check-refuses : (r : Refusal) → (matrixCheck which cap cs n s ≡ Refused r) ↔ AtFirst which cap cs n s r
-  check-refuses r = (λ e. at-first (refuses-first (wellFormed cap cs s) weightWords which (n * n) 0 r e), λ f. first-refuses (wellFormed cap cs s) weightWords which (n * n) 0 r (first-at f))
+  entries-refuses : (r : Refusal) → ((entriesCase which cap cs n s) .check ≡ Refused r) ↔ DueIn (entriesCase which cap cs n s) r
+  entries-refuses r = (λ e. at-first (refuses-first (wellFormed cap cs s) weightWords which (n * n) 0 r e), λ (p, q, f). first-refuses (wellFormed cap cs s) weightWords which (n * n) 0 r (first-at p q f))
     where
-      first-at : AtFirst which cap cs n s r → First (wellFormed cap cs s) weightWords which 0 (n * n) r
-      first-at f =
+      first-at : (p : ℕ) → r ≡ Value which p → AtFirstMalformed cap cs n s p → First (wellFormed cap cs s) weightWords which 0 (n * n) r
+      first-at p q f =
           let same : (0 + (f .row * n + f .column)) * weightWords ≡ entryPlace n (f .row) (f .column) = let z : 0 + (f .row * n + f .column) ≡ f .row * n + f .column = omega arith in ap (λ (k : ℕ). k * weightWords) z ∙ place-is n (f .row) (f .column) in
           record {
             entries = f .row * n + f .column;
@@ -217,20 +202,44 @@ module _ (which cap : ℕ) (cs : List Component) (n : ℕ) (s : List ℕ) (squar
             before = λ m l. let below : f .row * n + f .column < n * n = entry-below n (f .row) (f .column) (f .row-below) (f .column-below) in
                 let g : Found m = found m (omega arith) in
                 subst (λ (k : ℕ). wellFormed cap cs s k ≡ true) (sym (g .same)) (f .before (g .row) (g .column) (g .row-below) (g .column-below) (omega (arith, g .counted)));
-            told = f .told ∙ ap (Value which) (sym same);
+            told = q ∙ ap (Value which) (f .here ∙ sym same);
           }
 
-      at-first : First (wellFormed cap cs s) weightWords which 0 (n * n) r → AtFirst which cap cs n s r
+      at-first : First (wellFormed cap cs s) weightWords which 0 (n * n) r → (p : ℕ) × (r ≡ Value which p) × AtFirstMalformed cap cs n s p
       at-first f =
-          let g : Found (f .entries) = found (f .entries) (f .within) in
-          record {
-            row = g .row;
-            column = g .column;
-            row-below = g .row-below;
-            column-below = g .column-below;
-            fails = subst (λ (k : ℕ). wellFormed cap cs s k ≡ false) (g .same) (f .fails);
-            before = λ i j hi hj l. subst (λ (k : ℕ). wellFormed cap cs s k ≡ true) (place-is n i j)
-                (let z : 0 + (i * n + j) ≡ i * n + j = omega arith in
-                subst (λ (k : ℕ). wellFormed cap cs s (k * weightWords) ≡ true) z (f .before (i * n + j) (omega (arith, g .counted))));
-            told = f .told ∙ ap (Value which) (g .same);
-          }
+          let g : Found (f .entries) = found (f .entries) (f .within) in (
+            entryPlace n (g .row) (g .column),
+            f .told ∙ ap (Value which) (g .same),
+            record {
+              row = g .row;
+              column = g .column;
+              row-below = g .row-below;
+              column-below = g .column-below;
+              fails = subst (λ (k : ℕ). wellFormed cap cs s k ≡ false) (g .same) (f .fails);
+              before = λ i j hi hj l. subst (λ (k : ℕ). wellFormed cap cs s k ≡ true) (place-is n i j)
+                  (let z : 0 + (i * n + j) ≡ i * n + j = omega arith in
+                  subst (λ (k : ℕ). wellFormed cap cs s (k * weightWords) ≡ true) z (f .before (i * n + j) (omega (arith, g .counted))));
+              here = refl;
+            },
+          )
+
+  pub entries-exact : Exact (entriesCase which cap cs n s)
+  entries-exact = record { refuses = entries-refuses }
+
+  module _ (square : Square n s) where
+    -- what passes is well-formed
+    pub check-formed : matrixCheck which cap cs n s ≡ Passed → Formed cap cs n s
+    check-formed e = record {
+      square = square;
+      reads = λ i j hi hj. subst (λ (k : ℕ). wellFormed cap cs s k ≡ true) (place-is n i j)
+          (let z : 0 + (i * n + j) ≡ i * n + j = omega arith in
+          subst (λ (k : ℕ). wellFormed cap cs s (k * weightWords) ≡ true) z (passes-all (wellFormed cap cs s) weightWords which (n * n) 0 e (i * n + j) (entry-below n i j hi hj)));
+    }
+
+    -- .. and back
+    pub formed-check : Formed cap cs n s → matrixCheck which cap cs n s ≡ Passed
+    formed-check f = all-passes (wellFormed cap cs s) weightWords which (n * n) 0
+        (λ m h. let g : Found m = found m h in subst (λ (k : ℕ). wellFormed cap cs s k ≡ true) (sym (g .same)) (f .reads (g .row) (g .column) (g .row-below) (g .column-below)))
+
+    pub check-exactly : (matrixCheck which cap cs n s ≡ Passed) ↔ Formed cap cs n s
+    check-exactly = (check-formed, formed-check)

@@ -5,10 +5,10 @@ use mathlib.Core.Path.{_≡_}
 use mathlib.Core.Bool.{Bool, true, false, cond}
 use mathlib.Core.List.{List, [], _++_}
 use lib.ListN.{length, take, drop}
-use Rattle.refusals.specs.declared.Refusal.{Refusal}
 use Rattle.refusals.specs.declared.Refusal.the-variants.{Value}
 use Rattle.refusals.specs.declared.Check.{Check}
 use Rattle.refusals.specs.declared.Check.the-variants.{Passed, Refused}
+use Rattle.refusals.specs.Cases.{Case}
 use Rattle.weights.specs.declared.Component.{Component}
 use Rattle.weights.specs.Sizes.{weightWords}
 use Rattle.weights.specs.Weights.{Weight}
@@ -56,7 +56,7 @@ unfoldable pub firstMalformed : (ℕ → Bool) → ℕ → ℕ → ℕ → ℕ �
 firstMalformed test size which e zero = Passed
 firstMalformed test size which e (suc c) = cond (test (e * size)) (firstMalformed test size which (suc e) c) (Refused (Value which (e * size)))
 
--- Refusal 6 on an n x n matrix: its first malformed entry, by rows.
+-- the check of a matrix: its first malformed entry, by rows
 abbrev pub matrixCheck : ℕ → ℕ → List Component → ℕ → List ℕ → Check
 matrixCheck which cap cs n s = firstMalformed (wellFormed cap cs s) weightWords which 0 (n * n)
 
@@ -70,12 +70,16 @@ pub record Formed (cap : ℕ) (cs : List Component) (n : ℕ) (s : List ℕ) : T
   pub square : Square n s
   pub reads : (i j : ℕ) → i < n → j < n → wellFormed cap cs s (entryPlace n i j) ≡ true
 
--- r is refusal 6 at entry (row, column), which is malformed, and every entry before it, by rows, is well-formed
-pub record AtFirst (which cap : ℕ) (cs : List Component) (n : ℕ) (s : List ℕ) (r : Refusal) : Type 0 where
+-- the place is that of entry (row, column), which is malformed, and every entry before it, by rows, is well-formed
+pub record AtFirstMalformed (cap : ℕ) (cs : List Component) (n : ℕ) (s : List ℕ) (place : ℕ) : Type 0 where
   pub row : ℕ
   pub column : ℕ
   pub row-below : row < n
   pub column-below : column < n
   pub fails : wellFormed cap cs s (entryPlace n row column) ≡ false
   pub before : (i j : ℕ) → i < n → j < n → i * n + j < row * n + column → wellFormed cap cs s (entryPlace n i j) ≡ true
-  pub told : r ≡ Value which (entryPlace n row column)
+  pub here : place ≡ entryPlace n row column
+
+-- refusal 6 on an n x n matrix: at its first malformed entry, by rows
+abbrev pub entriesCase : ℕ → ℕ → List Component → ℕ → List ℕ → Case
+entriesCase which cap cs n s = record { check = matrixCheck which cap cs n s; tells = Value which; due = AtFirstMalformed cap cs n s }

@@ -26,6 +26,7 @@ use Rattle.contents.proofs.Storing.{listed-wide}
 use Rattle.encoded.proofs.WellFormed.{done-means}
 use Rattle.texts.specs.Lines.{refusedLine}
 use Rattle.printing.specs.Printed.{textOf, textRead, printed}
+use Rattle.guards.specs.OnNetwork.{onNetwork}
 
 -- ---- the lists
 
@@ -45,7 +46,7 @@ list-lent s h list at buffer =
 module _ (s a m a′ m′ : List ℕ) where
   -- after a read that is done the text is that of the parts of the two buffers
   pub text-done : (n k mode : ℕ) (l : Language) → ReadSays s a m a′ m′ (Done n k mode l)
-      → printed s ≡ textOf l n k mode (take (n * (n * weightWords)) a′) (take (n * (k * entryWords)) m′)
+      → printed s ≡ textOf (onNetwork l n (take (n * (n * weightWords)) a′)) k mode (take (n * (k * entryWords)) m′)
   unfolding printed sizeOf
   text-done n k mode l w =
       let d = done-means s a m a′ m′ n k mode l w in
@@ -56,12 +57,12 @@ module _ (s a m a′ m′ : List ℕ) where
       let mapping : take (h .n * (h .m * entryWords)) m′ ≡ listedTable s h Attachments (mid + 2) (twoAt s mid) =
       ap (take (h .n * (h .m * entryWords))) (d .mapping-is) ∙ list-lent s h Attachments mid m in
       ap (textRead s) (d .read)
-      ∙ ap (λ (x : List ℕ). textOf (h .language) (h .n) (h .m) (h .mode) x (listedTable s h Attachments (mid + 2) (twoAt s mid))) (sym arcs)
-      ∙ ap (textOf (h .language) (h .n) (h .m) (h .mode) (take (h .n * (h .n * weightWords)) a′)) (sym mapping)
-      ∙ ap (λ (x : ℕ). textOf (h .language) x (h .m) (h .mode) (take (x * (x * weightWords)) a′) (take (x * (h .m * entryWords)) m′)) (d .n-is)
-      ∙ ap (λ (x : ℕ). textOf (h .language) n x (h .mode) (take (n * (n * weightWords)) a′) (take (n * (x * entryWords)) m′)) (d .m-is)
-      ∙ ap (λ (x : ℕ). textOf (h .language) n k x (take (n * (n * weightWords)) a′) (take (n * (k * entryWords)) m′)) (d .mode-is)
-      ∙ ap (λ (x : Language). textOf x n k mode (take (n * (n * weightWords)) a′) (take (n * (k * entryWords)) m′)) (d .language-is)
+      ∙ ap (λ (x : List ℕ). textOf (onNetwork (h .language) (h .n) x) (h .m) (h .mode) (listedTable s h Attachments (mid + 2) (twoAt s mid))) (sym arcs)
+      ∙ ap (textOf (onNetwork (h .language) (h .n) (take (h .n * (h .n * weightWords)) a′)) (h .m) (h .mode)) (sym mapping)
+      ∙ ap (λ (x : ℕ). textOf (onNetwork (h .language) x (take (x * (x * weightWords)) a′)) (h .m) (h .mode) (take (x * (h .m * entryWords)) m′)) (d .n-is)
+      ∙ ap (λ (x : ℕ). textOf (onNetwork (h .language) n (take (n * (n * weightWords)) a′)) x (h .mode) (take (n * (x * entryWords)) m′)) (d .m-is)
+      ∙ ap (λ (x : ℕ). textOf (onNetwork (h .language) n (take (n * (n * weightWords)) a′)) k x (take (n * (k * entryWords)) m′)) (d .mode-is)
+      ∙ ap (λ (x : Language). textOf (onNetwork x n (take (n * (n * weightWords)) a′)) k mode (take (n * (k * entryWords)) m′)) (d .language-is)
 
   -- where the buffers are long enough, a refusal is the file's own
   pub text-refused : (r : Refusal) → 1024 ≤ length a → 2560 ≤ length m → ReadSays s a m a′ m′ (Refused r) → printed s ≡ refusedLine (told r)

@@ -24,12 +24,14 @@ use Rattle.texts.specs.Lines.{refusedLine}
 use Rattle.printing.specs.Work.{routesTold, routesLeft, blank, tableTold, tableLeft, blankTable}
 use Rattle.printing.specs.Printed.{lawsPart, routesPart, forwardPart, textWith, textOf, printed}
 use Rattle.printing.proofs.Answered.{text-done, text-refused}
+use Rattle.forwarding.specs.Calls.{OnTables, onTables}
+use Rattle.guards.specs.OnNetwork.{OnNetwork, onNetwork}
 
 -- ---- the forwarding call
 
-module _ (l : Language) (n m mode : ℕ) (a r s f f₁ : List ℕ) (t : Told) where
-  pub table-tried : (x : Told) → x ≡ checkTold (forwardCheck l n m mode a r s f) → f₁ ≡ forwardLeft l n m mode a r s f → t ≡ x
-      → (t ≡ tableTold l n m mode a r s f) × (f₁ ≡ tableLeft l n m mode a r s f)
+module _ (T : OnTables) (f f₁ : List ℕ) (t : Told) where
+  pub table-tried : (x : Told) → x ≡ checkTold (forwardCheck T f) → f₁ ≡ forwardLeft T f → t ≡ x
+      → (t ≡ tableTold T f) × (f₁ ≡ tableLeft T f)
   unfolding tableTold tableLeft
   table-tried x e q h = (h ∙ e, q)
 
@@ -59,19 +61,19 @@ blank-sized n m f f₁ h g e k = record {
 
 -- ---- the text
 
-module _ (l : Language) (n m mode : ℕ) (a s : List ℕ) {x y : List ℕ} {end : ℕ} where
+module _ (N : OnNetwork) (m mode : ℕ) (s : List ℕ) {x y : List ℕ} {end : ℕ} where
   -- what the calls tell and leave on buffers of zeros gives the text of the network
-  pub worked-text : (r r₁ f f₁ : List ℕ) (t u : Told) → r ≡ blank n → f ≡ blankTable n m
-      → t ≡ routesTold l n a r → r₁ ≡ routesLeft l n a r → u ≡ tableTold l n m mode a r₁ s f → f₁ ≡ tableLeft l n m mode a r₁ s f
-      → Put 57976 x 0 (lawsPart l ++ routesPart l n t r₁ (forwardPart l n m mode u f₁)) y end
-      → Put 57976 x 0 (textOf l n m mode a s) y end
+  pub worked-text : (r r₁ f f₁ : List ℕ) (t u : Told) → r ≡ blank (N .n) → f ≡ blankTable (N .n) m
+      → t ≡ routesTold N r → r₁ ≡ routesLeft N r → u ≡ tableTold (onTables N m mode r₁ s) f → f₁ ≡ tableLeft (onTables N m mode r₁ s) f
+      → Put 57976 x 0 (lawsPart (N .language) ++ routesPart (N .language) (N .n) t r₁ (forwardPart (N .language) (N .n) m mode u f₁)) y end
+      → Put 57976 x 0 (textOf N m mode s) y end
   unfolding textOf
   worked-text r r₁ f f₁ t u er ef et q eu v p =
       put-as p
-      (ap (λ (z : Told). lawsPart l ++ routesPart l n z r₁ (forwardPart l n m mode u f₁)) (et ∙ ap (routesTold l n a) er)
-      ∙ ap (λ (z : Told). lawsPart l ++ routesPart l n (routesTold l n a (blank n)) r₁ (forwardPart l n m mode z f₁)) (eu ∙ ap (tableTold l n m mode a r₁ s) ef)
-      ∙ ap (λ (z : List ℕ). lawsPart l ++ routesPart l n (routesTold l n a (blank n)) r₁ (forwardPart l n m mode (tableTold l n m mode a r₁ s (blankTable n m)) z)) (v ∙ ap (tableLeft l n m mode a r₁ s) ef)
-      ∙ ap (λ (z : List ℕ). textWith l n m mode a z s) (q ∙ ap (routesLeft l n a) er))
+      (ap (λ (z : Told). lawsPart (N .language) ++ routesPart (N .language) (N .n) z r₁ (forwardPart (N .language) (N .n) m mode u f₁)) (et ∙ ap (routesTold N) er)
+      ∙ ap (λ (z : Told). lawsPart (N .language) ++ routesPart (N .language) (N .n) (routesTold N (blank (N .n))) r₁ (forwardPart (N .language) (N .n) m mode z f₁)) (eu ∙ ap (tableTold (onTables N m mode r₁ s)) ef)
+      ∙ ap (λ (z : List ℕ). lawsPart (N .language) ++ routesPart (N .language) (N .n) (routesTold N (blank (N .n))) r₁ (forwardPart (N .language) (N .n) m mode (tableTold (onTables N m mode r₁ s) (blankTable (N .n) m)) z)) (v ∙ ap (tableLeft (onTables N m mode r₁ s)) ef)
+      ∙ ap (λ (z : List ℕ). textWith (onTables N m mode z s)) (q ∙ ap (routesLeft N) er))
       (omega arith)
 
 module _ (s a m a′ m′ : List ℕ) where
@@ -81,7 +83,7 @@ module _ (s a m a′ m′ : List ℕ) where
   refused-text r t g h w e p = put-as p (ap refusedLine e ∙ sym (text-refused s a m a′ m′ r g h w)) (omega arith)
 
   module _ (n k mode : ℕ) (l : Language) (w : ReadSays s a m a′ m′ (Done n k mode l)) where
-    pub done-text : {x y : List ℕ} {end : ℕ} → Put 57976 x 0 (textOf l n k mode (take (n * (n * weightWords)) a′) (take (n * (k * entryWords)) m′)) y end
+    pub done-text : {x y : List ℕ} {end : ℕ} → Put 57976 x 0 (textOf (onNetwork l n (take (n * (n * weightWords)) a′)) k mode (take (n * (k * entryWords)) m′)) y end
         → Put 57976 x 0 (printed s) y end
     done-text p = put-as p (sym (text-done s a m a′ m′ n k mode l w)) (omega arith)
 

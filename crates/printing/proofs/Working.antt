@@ -11,13 +11,16 @@ use Rattle.refusals.specs.declared.Check.{Check}
 use Rattle.refusals.specs.declared.Check.the-variants.{Passed, Refused}
 use Rattle.refusals.specs.declared.Told.{Told}
 use Rattle.refusals.specs.Told.{told, done}
-use Rattle.refusals.specs.Checks.{checkTold}
+use Rattle.refusals.specs.Checks.{checkTold, ifPassed}
 use Rattle.refusals.proofs.OneToOne.{told-not-done}
-use Rattle.weights.specs.declared.Language.{Language}
-use Rattle.routes.specs.Calls.{freshCheck, freshLeftBy, freshLeft, StepsRow, stepsRow, stepsLeft}
+use Rattle.routes.specs.Calls.{freshCheck, freshLeft, StepsRow, stepsRow, stepsLeft}
 use Rattle.decimals.specs.Texts.{Put}
 use Rattle.decimals.proofs.Putting.{put-front}
-use Rattle.printing.specs.Work.{sweepsList, firstTold, routesTold, routesLeftBy, routesLeft}
+use Rattle.printing.specs.Work.{sweepsList, routesTold, routesLeft}
+use Rattle.algebra.specs.Step.{fresh}
+use Rattle.weights.specs.Weights.{language}
+use Rattle.matrices.specs.Buffers.{matrixWords}
+use Rattle.guards.specs.OnNetwork.{OnNetwork, components}
 
 -- ---- the list
 
@@ -34,33 +37,35 @@ module _ (n : ℕ) {s s′ : List ℕ} (p : Put ((n - 1) * n) s 0 (sweepsList n)
 
 -- ---- the calls
 
-module _ (l : Language) (n : ℕ) (a r : List ℕ) (t : Told) where
+module _ (N : OnNetwork) (r : List ℕ) (t : Told) where
+  open OnNetwork N using (n)
+
   -- the fresh call is refused
-  pub fresh-refused : (r₁ : List ℕ) (x : Refusal) → told x ≡ checkTold (freshCheck l n r) → r₁ ≡ freshLeft l n r → t ≡ told x
-      → (t ≡ routesTold l n a r) × (r₁ ≡ routesLeft l n a r)
+  pub fresh-refused : (r₁ : List ℕ) (x : Refusal) → told x ≡ checkTold (freshCheck (N .language) n r) → r₁ ≡ freshLeft (N .language) n r → t ≡ told x
+      → (t ≡ routesTold N r) × (r₁ ≡ routesLeft N r)
   unfolding routesTold routesLeft
-  fresh-refused r₁ x e q h = go (freshCheck l n r) e q
+  fresh-refused r₁ x e q h = go (freshCheck (N .language) n r) e q
     where
-      go : (k : Check) → told x ≡ checkTold k → r₁ ≡ freshLeftBy k l n r
-          → (t ≡ firstTold k (stepsRow l n a (freshLeft l n r) (sweepsList n) .told)) × (r₁ ≡ routesLeftBy k l n a r)
+      go : (k : Check) → told x ≡ checkTold k → r₁ ≡ ifPassed k (matrixWords n (fresh (language (components N)))) r
+          → (t ≡ ifPassed k (stepsRow N (freshLeft (N .language) n r) (sweepsList n) .told) (checkTold k)) × (r₁ ≡ ifPassed k (stepsLeft N (freshLeft (N .language) n r) (sweepsList n)) r)
       go Passed e q = absurd (told-not-done x e)
       go (Refused y) e q = (h ∙ e, q)
 
   -- the fresh call is done, and the steps are tried
-  pub steps-tried : (r₁ r₂ list : List ℕ) (row : StepsRow) → done ≡ checkTold (freshCheck l n r) → r₁ ≡ freshLeft l n r → list ≡ sweepsList n
-      → row ≡ stepsRow l n a r₁ list → r₂ ≡ stepsLeft l n a r₁ list → t ≡ row .told
-      → (t ≡ routesTold l n a r) × (r₂ ≡ routesLeft l n a r)
+  pub steps-tried : (r₁ r₂ list : List ℕ) (row : StepsRow) → done ≡ checkTold (freshCheck (N .language) n r) → r₁ ≡ freshLeft (N .language) n r → list ≡ sweepsList n
+      → row ≡ stepsRow N r₁ list → r₂ ≡ stepsLeft N r₁ list → t ≡ row .told
+      → (t ≡ routesTold N r) × (r₂ ≡ routesLeft N r)
   unfolding routesTold routesLeft
-  steps-tried r₁ r₂ list row e q w u v h = go (freshCheck l n r) e
+  steps-tried r₁ r₂ list row e q w u v h = go (freshCheck (N .language) n r) e
     where
       go : (k : Check) → done ≡ checkTold k
-          → (t ≡ firstTold k (stepsRow l n a (freshLeft l n r) (sweepsList n) .told)) × (r₂ ≡ routesLeftBy k l n a r)
+          → (t ≡ ifPassed k (stepsRow N (freshLeft (N .language) n r) (sweepsList n) .told) (checkTold k)) × (r₂ ≡ ifPassed k (stepsLeft N (freshLeft (N .language) n r) (sweepsList n)) r)
       go Passed e = (
         h ∙ ap (λ (z : StepsRow). z .told) u
-            ∙ ap (λ (z : List ℕ). stepsRow l n a z list .told) q
-            ∙ ap (λ (z : List ℕ). stepsRow l n a (freshLeft l n r) z .told) w,
+            ∙ ap (λ (z : List ℕ). stepsRow N z list .told) q
+            ∙ ap (λ (z : List ℕ). stepsRow N (freshLeft (N .language) n r) z .told) w,
         v
-            ∙ ap (λ (z : List ℕ). stepsLeft l n a z list) q
-            ∙ ap (λ (z : List ℕ). stepsLeft l n a (freshLeft l n r) z) w,
+            ∙ ap (λ (z : List ℕ). stepsLeft N z list) q
+            ∙ ap (λ (z : List ℕ). stepsLeft N (freshLeft (N .language) n r) z) w,
       )
       go (Refused y) e = absurd (told-not-done y (sym e))

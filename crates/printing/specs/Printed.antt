@@ -12,7 +12,6 @@ use Rattle.weights.specs.declared.Language.{Language}
 use Rattle.weights.specs.Languages.{componentsOf}
 use Rattle.laws.specs.Report.{report}
 use Rattle.tables.specs.Tables.{tableIn}
-use Rattle.routes.specs.Calls.{matrixOf}
 use Rattle.fields.specs.declared.HeadRead.{HeadRead}
 use Rattle.fields.specs.declared.HeadRead.the-variants.{Sound, Refused as Faulty}
 use Rattle.records.specs.declared.Listing.the-variants.{Arcs, Attachments}
@@ -22,6 +21,9 @@ use Rattle.files.specs.File.{fileRead}
 use Rattle.contents.specs.Contents.{listedTable}
 use Rattle.texts.specs.Lines.{lawsLine, routeLines, entryLines, refusedLine}
 use Rattle.printing.specs.Work.{routesTold, routesLeft, blank, tableTold, tableLeft, blankTable}
+use Rattle.matrices.specs.Buffers.{matrixIn}
+use Rattle.forwarding.specs.Calls.{OnTables, onTables}
+use Rattle.guards.specs.OnNetwork.{OnNetwork, onNetwork}
 
 -- ---- the parts
 
@@ -35,7 +37,7 @@ unlessRefused t text = cond (eqb (t .number) 0) text (refusedLine t)
 
 -- the R lines of the matrix that r holds, with what follows them
 abbrev pub routesPart : Language → ℕ → Told → List ℕ → List ℕ → List ℕ
-routesPart l n t r rest = unlessRefused t (routeLines n (matrixOf l n r) ++ rest)
+routesPart l n t r rest = unlessRefused t (routeLines n (matrixIn (length (componentsOf l)) n r) ++ rest)
 
 -- the F lines of the table that f holds; with m 0 there are none
 abbrev pub forwardPart : Language → ℕ → ℕ → ℕ → Told → List ℕ → List ℕ
@@ -43,23 +45,22 @@ forwardPart l n m mode t f = cond (eqb m 0) [] (unlessRefused t (entryLines mode
 
 -- ---- the whole
 
--- LAWS, then the R lines, then the F lines, of the arcs a, the routes r that the sweeps have left, and the mapping s
-abbrev pub textWith : Language → ℕ → ℕ → ℕ → List ℕ → List ℕ → List ℕ → List ℕ
-textWith l n m mode a r s =
-    lawsPart l
-    ++ routesPart l n (routesTold l n a (blank n)) r
-    (forwardPart l n m mode (tableTold l n m mode a r s (blankTable n m)) (tableLeft l n m mode a r s (blankTable n m)))
+-- LAWS, then the R lines, then the F lines, of the routes that the sweeps have left
+abbrev pub textWith : OnTables → List ℕ
+textWith T =
+    lawsPart (T .network .language)
+    ++ routesPart (T .network .language) (T .network .n) (routesTold (T .network) (blank (T .network .n))) (T .routes)
+    (forwardPart (T .network .language) (T .network .n) (T .m) (T .mode) (tableTold T (blankTable (T .network .n) (T .m))) (tableLeft T (blankTable (T .network .n) (T .m))))
 
--- of the arcs a and the mapping s
-unfoldable pub textOf : Language → ℕ → ℕ → ℕ → List ℕ → List ℕ → List ℕ
-textOf l n m mode a s = textWith l n m mode a (routesLeft l n a (blank n)) s
+-- of a network with m destinations, a mode and a mapping
+unfoldable pub textOf : OnNetwork → ℕ → ℕ → List ℕ → List ℕ
+textOf N m mode mapping = textWith (onTables N m mode (routesLeft N (blank (N .n))) mapping)
 
 -- a bad file's refusal in place of everything
 abbrev pub textRead : List ℕ → HeadRead → List ℕ
 textRead s (Faulty r) = refusedLine (told r)
 textRead s (Sound next h) =
-    textOf (h .language) (h .n) (h .m) (h .mode)
-    (listedTable s h Arcs (next + 2) (twoAt s next))
+    textOf (onNetwork (h .language) (h .n) (listedTable s h Arcs (next + 2) (twoAt s next))) (h .m) (h .mode)
     (listedTable s h Attachments (listEnd s h Arcs next + 2) (twoAt s (listEnd s h Arcs next)))
 
 -- The text printed of a file of at most 65,536 bytes.

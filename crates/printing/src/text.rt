@@ -15,6 +15,7 @@ ghost use Prim.Native.Nat.{_*_, _≤_, _<_};
 ghost use lib.ListN.{length, take};
 ghost use Rattle.weights.specs.Sizes.{places, weightWords, entryWords};
 ghost use Rattle.decimals.specs.Texts.{Put};
+ghost use Rattle.guards.specs.OnNetwork.{onNetwork};
 ghost use Rattle.printing.specs.Work.{blank, blankTable};
 ghost use Rattle.printing.specs.Printed.{textOf, printed, printedInput};
 
@@ -31,7 +32,7 @@ fn put_worked(
     out: &mut [u8],
 ) -> usize
     requires { ⌜ (0 < n) × (n ≤ 16) × (m ≤ 32) × (l .count ≤ places) × (now r ≡ blank n) × (now f ≡ blankTable n m) × (65536 ≤ length (now out)) ⌝ }
-    ensures { λ e. ⌜ Put 57976 (now (out .entry)) 0 (textOf l n m mode (now (a .entry)) (now (mapping .entry))) (now (out .exit)) e ⌝ }
+    ensures { λ e. ⌜ Put 57976 (now (out .entry)) 0 (textOf (onNetwork l n (now (a .entry))) m mode (now (mapping .entry))) (now (out .exit)) e ⌝ }
 {
     let routes = work_routes(l, n, a, r);
     let table = work_table(l, n, m, mode, a, r, mapping, f);
@@ -49,7 +50,7 @@ fn put_network(
     out: &mut [u8],
 ) -> usize
     requires { ⌜ (0 < n) × (n ≤ 16) × (m ≤ 32) × (l .count ≤ places) × (1024 ≤ length (now arcs)) × (2560 ≤ length (now mapping)) × (65536 ≤ length (now out)) ⌝ }
-    ensures { λ e. ⌜ Put 57976 (now (out .entry)) 0 (textOf l n m mode (take (n * (n * weightWords)) (now (arcs .entry))) (take (n * (m * entryWords)) (now (mapping .entry)))) (now (out .exit)) e ⌝ }
+    ensures { λ e. ⌜ Put 57976 (now (out .entry)) 0 (textOf (onNetwork l n (take (n * (n * weightWords)) (now (arcs .entry)))) m mode (take (n * (m * entryWords)) (now (mapping .entry)))) (now (out .exit)) e ⌝ }
 {
     let square = n * (n * WEIGHT_WORDS);
     let sized = n * (m * ENTRY_WORDS);

@@ -11,6 +11,8 @@ ghost use mathlib.Core.Path.{_≡_};
 ghost use Prim.Native.Nat.{_+_, _-_, _*_, _≤_, _<_};
 ghost use lib.ListN.{length};
 ghost use Rattle.decimals.specs.Texts.{Put};
+ghost use Rattle.guards.specs.OnNetwork.{onNetwork};
+ghost use Rattle.forwarding.specs.Calls.{onTables};
 ghost use Rattle.printing.specs.Work.{sweepList, sweepsList, routesTold, routesLeft, tableTold, tableLeft};
 
 // Puts 0..n-1 from `at` on.
@@ -37,8 +39,8 @@ fn put_sweeps(n: usize, list: &mut [u32])
 // Sweeps all rows n-1 times from fresh, on a buffer r; returns what the two calls tell.
 pub fn work_routes(l: Language, n: usize, a: &[u32], r: &mut [u32]) -> Told
     requires { ⌜ (0 < n) × (n ≤ 16) ⌝ }
-    ensures { λ t. ⌜ t ≡ routesTold l n (now (a .entry)) (now (r .entry)) ⌝ }
-    ensures { λ _. ⌜ now (r .exit) ≡ routesLeft l n (now (a .entry)) (now (r .entry)) ⌝ }
+    ensures { λ t. ⌜ t ≡ routesTold (onNetwork l n (now (a .entry))) (now (r .entry)) ⌝ }
+    ensures { λ _. ⌜ now (r .exit) ≡ routesLeft (onNetwork l n (now (a .entry))) (now (r .entry)) ⌝ }
 {
     let mut list = [0u32; 240];
     put_sweeps(n, &mut list);
@@ -78,8 +80,8 @@ pub fn work_table(
     f: &mut [u32],
 ) -> Told
     requires { ⌜ (n ≤ 16) × (m ≤ 32) ⌝ }
-    ensures { λ t. ⌜ t ≡ tableTold l n m mode (now (a .entry)) (now (r .entry)) (now (mapping .entry)) (now (f .entry)) ⌝ }
-    ensures { λ _. ⌜ now (f .exit) ≡ tableLeft l n m mode (now (a .entry)) (now (r .entry)) (now (mapping .entry)) (now (f .entry)) ⌝ }
+    ensures { λ t. ⌜ t ≡ tableTold (onTables (onNetwork l n (now (a .entry))) m mode (now (r .entry)) (now (mapping .entry))) (now (f .entry)) ⌝ }
+    ensures { λ _. ⌜ now (f .exit) ≡ tableLeft (onTables (onNetwork l n (now (a .entry))) m mode (now (r .entry)) (now (mapping .entry))) (now (f .entry)) ⌝ }
 {
     let answer = forward(l, n as u32, m as u32, mode, a, r, mapping, f);
     match answer {

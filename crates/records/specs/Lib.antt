@@ -1,2 +1,3 @@
 pub mod Records
 pub mod Parts
+pub mod Cases

@@ -1,5 +1,5 @@
 -- The records of a problem file: one record, the two lists, and the first refusal where they are wrong (01, "File").
--- To be believed: all of it.
+-- To be believed: all of it, but that its refusals are those of the file's words, which is proved (proofs/Cases).
 use Prim.Native.Nat.{ℕ, zero, suc, _+_, _*_}
 use mathlib.Core.Bool.{cond}
 use mathlib.Core.List.{List, [], _∷_}
@@ -75,11 +75,11 @@ unfoldable pub listEnd : List ℕ → Head → Listing → ℕ → ℕ
 listEnd s h list at = at + 2 + twoAt s at * lengthOf h list
 
 -- no bytes are left over
-abbrev pub endCheck : List ℕ → ℕ → Check
-endCheck s at = unless (leb (length s) at) (Bytes 0 at)
+abbrev pub leftOverCheck : List ℕ → ℕ → Check
+leftOverCheck s at = unless (leb (length s) at) (Bytes 0 at)
 
 -- arcs, attachments, and nothing after them
 unfoldable pub bodyCheck : List ℕ → Head → ℕ → Check
 bodyCheck s h at =
     orElse (recordListCheck s h Arcs at)
-    (orElse (recordListCheck s h Attachments (listEnd s h Arcs at)) (endCheck s (listEnd s h Attachments (listEnd s h Arcs at))))
+    (orElse (recordListCheck s h Attachments (listEnd s h Arcs at)) (leftOverCheck s (listEnd s h Attachments (listEnd s h Arcs at))))

@@ -1,14 +1,13 @@
--- Laws of checks. Exactness of refusals: the first of a list of checks gives r exactly when some check gives r and all before it pass.
+-- Laws of checks, alone and in a list.
 use Prim.Native.Nat.{ℕ}
-use mathlib.Core.Path.{_≡_, refl, sym}
+use mathlib.Core.Path.{_≡_, refl, sym, ap, _∙_}
 use mathlib.Core.Bool.{Bool, true, false}
-use mathlib.Core.Logic.{inl, inr, _↔_}
-use mathlib.Core.List.{List, [], _∷_}
+use mathlib.Core.List.{List, [], _∷_, _++_}
 use native.Mathlib.Omega.{arith}
 use Rattle.refusals.specs.declared.Refusal.{Refusal}
 use Rattle.refusals.specs.declared.Check.{Check}
 use Rattle.refusals.specs.declared.Check.the-variants.{Passed, Refused}
-use Rattle.refusals.specs.Checks.{unless, orElse, firstOf, Pass, Gives}
+use Rattle.refusals.specs.Checks.{unless, orElse, firstOf, ifPassed, Pass}
 
 -- to pass is not to refuse
 pub passed-not : (r : Refusal) → _≡_ {A = Check} Passed (Refused r) → ⊥
@@ -33,19 +32,6 @@ pub or-passed : (x : Check) → orElse x Passed ≡ x
 or-passed Passed = refl
 or-passed (Refused r) = refl
 
-first-gives : (cs : List Check) (r : Refusal) → firstOf cs ≡ Refused r → Gives cs r
-first-gives [] r e = absurd (passed-not r e)
-first-gives (Refused s ∷ cs) r e = inl e
-first-gives (Passed ∷ cs) r e = inr (refl, first-gives cs r e)
-
-gives-first : (cs : List Check) (r : Refusal) → Gives cs r → firstOf cs ≡ Refused r
-gives-first [] r g = absurd g
-gives-first (c ∷ cs) r (inl e) = rw e
-gives-first (c ∷ cs) r (inr (e, g)) = rw e (gives-first cs r g)
-
-pub first-exactly : (cs : List Check) (r : Refusal) → (firstOf cs ≡ Refused r) ↔ Gives cs r
-first-exactly cs r = (first-gives cs r, gives-first cs r)
-
 pub pass-first : (cs : List Check) → Pass cs → firstOf cs ≡ Passed
 pass-first [] p = refl
 pass-first (c ∷ cs) p = rw (p .0) (pass-first cs (p .1))
@@ -54,3 +40,40 @@ pub first-passes : (cs : List Check) → firstOf cs ≡ Passed → Pass cs
 first-passes [] e = tt
 first-passes (Passed ∷ cs) e = (refl, first-passes cs e)
 first-passes (Refused s ∷ cs) e = absurd (passed-not s (sym e))
+
+-- the checks of two lists, one after the other
+pub first-append : (cs ds : List Check) → firstOf (cs ++ ds) ≡ orElse (firstOf cs) (firstOf ds)
+first-append [] ds = refl
+first-append (Passed ∷ cs) ds = first-append cs ds
+first-append (Refused r ∷ cs) ds = refl
+
+-- ---- one check after another
+
+-- a refusal is the answer
+pub stops : {c : Check} {r : Refusal} (d : Check) → c ≡ Refused r → orElse c d ≡ Refused r
+stops d e = rw e
+
+-- a check that passes leaves it to the next
+pub goes-on : {c d e : Check} → c ≡ Passed → d ≡ e → orElse c d ≡ e
+goes-on p q = rw p q
+
+-- what comes after a check counts only where it passes
+pub or-else-cong : {c d : Check} (x y : Check) → c ≡ d → (d ≡ Passed → x ≡ y) → orElse c x ≡ orElse d y
+or-else-cong {c} {d} x y e f = ap (λ (k : Check). orElse k x) e ∙ go d refl
+  where
+    go : (k : Check) → d ≡ k → orElse k x ≡ orElse k y
+    go Passed q = f q
+    go (Refused r) q = refl
+
+-- three checks, one after the other
+pub or-else-assoc : (c d e : Check) → orElse (orElse c d) e ≡ orElse c (orElse d e)
+or-else-assoc Passed d e = refl
+or-else-assoc (Refused r) d e = refl
+
+-- ---- what a call gives
+
+pub if-passed : {X : Type 0} (x y : X) {c : Check} → c ≡ Passed → ifPassed c x y ≡ x
+if-passed x y e = ap (λ (c : Check). ifPassed c x y) e
+
+pub if-refused : {X : Type 0} (x y : X) {c : Check} {r : Refusal} → c ≡ Refused r → ifPassed c x y ≡ y
+if-refused x y e = ap (λ (c : Check). ifPassed c x y) e

@@ -1,7 +1,6 @@
 -- A call's checks in order: each gives a refusal or passes, and the first refusal is the call's answer.
 -- To be believed: all of it.
 use mathlib.Core.Path.{_≡_}
-use mathlib.Core.Logic.{_⊎_}
 use mathlib.Core.Bool.{Bool, true, false}
 use mathlib.Core.List.{List, [], _∷_}
 use Rattle.refusals.specs.declared.Refusal.{Refusal}
@@ -27,15 +26,15 @@ abbrev pub firstOf : List Check → Check
 firstOf [] = Passed
 firstOf (c ∷ cs) = orElse c (firstOf cs)
 
+-- what a call gives where its checks pass, and else
+abbrev pub ifPassed : {X : Type 0} → Check → X → X → X
+ifPassed Passed x y = x
+ifPassed (Refused r) x y = y
+
 -- every check of the list passes
 abbrev pub Pass : List Check → Type 0
 Pass [] = Unit {0}
 Pass (c ∷ cs) = (c ≡ Passed) × Pass cs
-
--- some check of the list gives r, and all before it pass
-abbrev pub Gives : List Check → Refusal → Type 0
-Gives [] r = ⊥
-Gives (c ∷ cs) r = (c ≡ Refused r) ⊎ ((c ≡ Passed) × Gives cs r)
 
 -- ---- the answer of a call that gives no number
 

@@ -1,6 +1,5 @@
 pub mod Bridge
 pub mod Order
-pub mod OneTeller
 pub mod Cases
 pub mod Lists
 pub mod Answers

@@ -12,7 +12,7 @@ use borrow.Author.Tests.{leb-true, ltb-true, ltb-false, lt-ltb, le-ltb, lt-leb, 
 use Rattle.refusals.specs.declared.Refusal.the-variants.{NoSuch, TooMany}
 use Rattle.refusals.specs.declared.Check.the-variants.{Passed, Refused}
 use Rattle.refusals.specs.Checks.{unless, firstOf}
-use Rattle.refusals.proofs.First.{passed-not}
+use Rattle.refusals.proofs.First.{passed-not, or-passed}
 use Rattle.algebra.specs.Step.{Step, row, settle, step}
 use Rattle.weights.specs.declared.Component.{Component}
 use Rattle.weights.specs.Sizes.{places}
@@ -23,10 +23,9 @@ use Rattle.weights.specs.Languages.{placesOf}
 use Rattle.matrices.specs.Buffers.{matrixWords, matrixIn}
 use Rattle.matrices.specs.Steps.{rowFits, stepped, Given}
 use Rattle.matrices.proofs.Kept.{row-given, settle-given}
-use Rattle.guards.specs.Checks.{isStep, stepsFrom, manyCheck, listCheck, firstSettle, mostSteps}
+use Rattle.guards.specs.Checks.{isStep, stepsFrom, manyCase, listCase, firstSettle, mostSteps}
 use Rattle.routes.specs.Calls.{stepOf, stepFits}
 use Rattle.routes.specs.Ready.{AllSteps, stepLeft, runLeft, runDone}
-use Rattle.routes.proofs.Order.{last}
 use Rattle.routes.proofs.Bridge.{StepIn, StepsIn}
 
 -- ---- one number
@@ -70,11 +69,11 @@ all-in n (x ∷ list) few s = (step-in n x few (s .0), all-in n list few (s .1))
 
 -- ---- the check of a list
 
-pub too-many : (n : ℕ) (list : List ℕ) → mostSteps < length list → Refused (TooMany 0 0) ≡ firstOf (manyCheck list ∷ listCheck n list ∷ [])
+pub too-many : (n : ℕ) (list : List ℕ) → mostSteps < length list → Refused (TooMany 0 0) ≡ firstOf (manyCase list .check ∷ listCase n list .check ∷ [])
 too-many n list h = rw (lt-leb (length list) mostSteps h)
 
-pub list-start : (n : ℕ) (list : List ℕ) → length list ≤ mostSteps → firstOf (manyCheck list ∷ listCheck n list ∷ []) ≡ stepsFrom n 0 (drop 0 list)
-list-start n list h = rw (le-leb (length list) mostSteps h) (last refl)
+pub list-start : (n : ℕ) (list : List ℕ) → length list ≤ mostSteps → firstOf (manyCase list .check ∷ listCase n list .check ∷ []) ≡ stepsFrom n 0 (drop 0 list)
+list-start n list h = rw (le-leb (length list) mostSteps h) (or-passed (listCase n list .check))
 
 module _ (n : ℕ) (list : List ℕ) (k : ℕ) where
   abbrev here : ℕ
@@ -104,11 +103,11 @@ steps-pass n k (x ∷ list) e = go (isStep n x) refl e (steps-pass n (suc k) lis
     go true p q ih = (p, ih q)
     go false p q ih = absurd (passed-not (NoSuch 0 k) (sym q))
 
-pub list-passed : (n : ℕ) (list : List ℕ) → firstOf (manyCheck list ∷ listCheck n list ∷ []) ≡ Passed → (length list ≤ mostSteps) × AllSteps n list
+pub list-passed : (n : ℕ) (list : List ℕ) → firstOf (manyCase list .check ∷ listCase n list .check ∷ []) ≡ Passed → (length list ≤ mostSteps) × AllSteps n list
 list-passed n list e = go (leb (length list) mostSteps) refl e
   where
-    go : (b : Bool) → leb (length list) mostSteps ≡ b → firstOf (unless b (TooMany 0 0) ∷ listCheck n list ∷ []) ≡ Passed → (length list ≤ mostSteps) × AllSteps n list
-    go true p q = (leb-true (length list) mostSteps p, steps-pass n 0 list (sym (last refl) ∙ q))
+    go : (b : Bool) → leb (length list) mostSteps ≡ b → firstOf (unless b (TooMany 0 0) ∷ listCase n list .check ∷ []) ≡ Passed → (length list ≤ mostSteps) × AllSteps n list
+    go true p q = (leb-true (length list) mostSteps p, steps-pass n 0 list (sym (or-passed (listCase n list .check)) ∙ q))
     go false p q = absurd (passed-not (TooMany 0 0) (sym q))
 
 -- .. and the other way round
@@ -116,8 +115,8 @@ steps-passed : (n k : ℕ) (list : List ℕ) → AllSteps n list → stepsFrom n
 steps-passed n k [] s = refl
 steps-passed n k (x ∷ list) s = rw (s .0) (steps-passed n (suc k) list (s .1))
 
-pub passed-list : (n : ℕ) (list : List ℕ) → length list ≤ mostSteps → AllSteps n list → firstOf (manyCheck list ∷ listCheck n list ∷ []) ≡ Passed
-passed-list n list h s = rw (le-leb (length list) mostSteps h) (last refl ∙ steps-passed n 0 list s)
+pub passed-list : (n : ℕ) (list : List ℕ) → length list ≤ mostSteps → AllSteps n list → firstOf (manyCase list .check ∷ listCase n list .check ∷ []) ≡ Passed
+passed-list n list h s = rw (le-leb (length list) mostSteps h) (or-passed (listCase n list .check) ∙ steps-passed n 0 list s)
 
 pub all-front : (n : ℕ) (xs ys : List ℕ) → AllSteps n (xs ++ ys) → AllSteps n xs
 all-front n [] ys s = tt

@@ -1,25 +1,23 @@
 -- Two answers that meet one contract are equal, with what they leave in the buffer; so are two answers of the checks.
 use Prim.Native.Nat.{ℕ}
-use mathlib.Core.Path.{_≡_, refl, sym, ap, ap₂, _∙_}
+use mathlib.Core.Path.{_≡_, refl, sym, ap, ap₂}
 use mathlib.Core.Bool.{true}
 use mathlib.Core.List.{List}
 use Rattle.refusals.specs.declared.Answer.{Answer}
-use Rattle.refusals.specs.Told.{told}
 use Rattle.refusals.specs.Checks.{answerTold, checkTold}
 use Rattle.refusals.proofs.OneToOne.{told-one, told-not-done, answer-one}
-use Rattle.refusals.proofs.First.{passed-not, refused-one}
 use Rattle.refusals.proofs.Pinned.{equation-pins}
 use Rattle.weights.specs.declared.Language.{Language}
-use Rattle.weights.proofs.Unique.{places-one}
 use Rattle.weights.proofs.Ordering.{clash}
 use Rattle.routes.specs.declared.StepsAnswer.{StepsAnswer}
 use Rattle.routes.specs.declared.StepsAnswer.the-variants.{Done, Refused as StepsRefused}
 use Rattle.routes.specs.declared.EquationAnswer.{EquationAnswer}
 use Rattle.routes.specs.declared.EquationAnswer.the-variants.{Yes, No, Refused as EquationRefused}
-use Rattle.routes.specs.declared.Ready.{Ready}
-use Rattle.routes.specs.declared.Ready.the-variants.{Given as Places-given, Refused as Call-refused}
-use Rattle.routes.specs.Calls.{freshCheck, freshLeft, StepsRow, stepsRow, stepsLeft, stepsSaid, EquationRow, equationRow, equationSaid}
-use Rattle.routes.specs.Ready.{FreshReady, MatricesReady}
+use Rattle.guards.specs.declared.Ready.{Ready}
+use Rattle.guards.specs.OnNetwork.{OnNetwork}
+use Rattle.routes.specs.Calls.{equationCheck, freshCheck, freshLeft, StepsRow, stepsRow, stepsLeft, stepsSaid, EquationRow, equationRow, equationSaid}
+use Rattle.routes.specs.Ready.{MatricesReady}
+use Rattle.guards.proofs.Unique.{one-ready}
 
 -- what the buffer of fresh holds is pinned with the answer
 pub fresh-answers-equal : (l : Language) (n : ℕ) (r : List ℕ) (x y : Answer) (left right : List ℕ)
@@ -35,11 +33,11 @@ steps-one (StepsRefused r k) (Done m) e = absurd (told-not-done r (ap (λ (w : S
 steps-one (StepsRefused r k) (StepsRefused s m) e = ap₂ StepsRefused (told-one r s (ap (λ (w : StepsRow). w .told) e)) (ap (λ (w : StepsRow). w .done) e)
 
 -- so is what the buffer of the step call holds
-pub steps-answers-equal : (l : Language) (n : ℕ) (a r list : List ℕ) (x y : StepsAnswer) (left right : List ℕ)
-    → (stepsSaid x ≡ stepsRow l n a r list) × (left ≡ stepsLeft l n a r list)
-    → (stepsSaid y ≡ stepsRow l n a r list) × (right ≡ stepsLeft l n a r list)
+pub steps-answers-equal : (N : OnNetwork) (r list : List ℕ) (x y : StepsAnswer) (left right : List ℕ)
+    → (stepsSaid x ≡ stepsRow N r list) × (left ≡ stepsLeft N r list)
+    → (stepsSaid y ≡ stepsRow N r list) × (right ≡ stepsLeft N r list)
     → (x ≡ y) × (left ≡ right)
-steps-answers-equal l n a r list x y left right p q = (steps-one x y (equation-pins (p .0) (q .0)), equation-pins (p .1) (q .1))
+steps-answers-equal N r list x y left right p q = (steps-one x y (equation-pins (p .0) (q .0)), equation-pins (p .1) (q .1))
 
 equation-one : (x y : EquationAnswer) → equationSaid x ≡ equationSaid y → x ≡ y
 equation-one Yes Yes e = refl
@@ -52,19 +50,10 @@ equation-one (EquationRefused r) Yes e = absurd (told-not-done r (ap (λ (w : Eq
 equation-one (EquationRefused r) No e = absurd (told-not-done r (ap (λ (w : EquationRow). w .told) e))
 equation-one (EquationRefused r) (EquationRefused s) e = ap EquationRefused (told-one r s (ap (λ (w : EquationRow). w .told) e))
 
-pub equation-answers-equal : (l : Language) (n : ℕ) (a r : List ℕ) (x y : EquationAnswer) → equationSaid x ≡ equationRow l n a r → equationSaid y ≡ equationRow l n a r → x ≡ y
-equation-answers-equal l n a r x y p q = equation-one x y (equation-pins p q)
+pub equation-answers-equal : (N : OnNetwork) (r : List ℕ) (x y : EquationAnswer) → equationSaid x ≡ equationRow N r → equationSaid y ≡ equationRow N r → x ≡ y
+equation-answers-equal N r x y p q = equation-one x y (equation-pins p q)
 
 -- ---- the checks
 
-pub ready-one : (l : Language) (n : ℕ) (a r : List ℕ) (x y : Ready) → MatricesReady l n a r x → MatricesReady l n a r y → x ≡ y
-ready-one l n a r (Places-given p) (Places-given q) h k = ap Places-given (places-one p q (h .1 .placed ∙ sym (k .1 .placed)))
-ready-one l n a r (Places-given p) (Call-refused s) h k = absurd (passed-not s (sym (h .0) ∙ k))
-ready-one l n a r (Call-refused s) (Places-given q) h k = absurd (passed-not s (sym (k .0) ∙ h))
-ready-one l n a r (Call-refused s) (Call-refused t) h k = ap Call-refused (refused-one (sym h ∙ k))
-
-pub fresh-ready-one : (l : Language) (n : ℕ) (r : List ℕ) (x y : Ready) → FreshReady l n r x → FreshReady l n r y → x ≡ y
-fresh-ready-one l n r (Places-given p) (Places-given q) h k = ap Places-given (places-one p q (h .1 .placed ∙ sym (k .1 .placed)))
-fresh-ready-one l n r (Places-given p) (Call-refused s) h k = absurd (passed-not s (sym (h .0) ∙ k))
-fresh-ready-one l n r (Call-refused s) (Places-given q) h k = absurd (passed-not s (sym (k .0) ∙ h))
-fresh-ready-one l n r (Call-refused s) (Call-refused t) h k = ap Call-refused (refused-one (sym h ∙ k))
+pub ready-one : (N : OnNetwork) (r : List ℕ) (x y : Ready) → MatricesReady N r x → MatricesReady N r y → x ≡ y
+ready-one N r = one-ready (N .language) (equationCheck N r) (MatricesReady N r) (λ p o. (o .0, o .1)) (λ x e. e)

@@ -1,47 +1,55 @@
--- The calls fresh, steps and equation (01, "Steps"): each call's checks in 01's order, its answer, and what its buffer holds then.
+-- The calls fresh, steps and equation (01, "Steps"): each call's cases in 01's order, its answer, and what its buffer holds then.
 -- To be believed: all of it.
 use Prim.Native.Nat.{ℕ, suc, _-_}
 use mathlib.Core.Bool.{Bool, true, false, cond}
-use mathlib.Core.List.{List, [], _∷_, map}
+use mathlib.Core.Path.{_≡_}
+use mathlib.Core.List.{List, [], _∷_, _++_, map}
 use lib.Dec.{ltb}
 use lib.ListN.{length}
+use Rattle.refusals.specs.declared.Refusal.{Refusal}
 use Rattle.refusals.specs.declared.Refusal.the-variants.{Sum}
 use Rattle.refusals.specs.declared.Check.{Check}
 use Rattle.refusals.specs.declared.Check.the-variants.{Passed, Refused}
 use Rattle.refusals.specs.declared.Told.{Told}
 use Rattle.refusals.specs.Told.{told, done}
-use Rattle.refusals.specs.Checks.{firstOf}
+use Rattle.refusals.specs.Checks.{checkTold, ifPassed}
+use Rattle.refusals.specs.Cases.{Case, checkOf}
 use Rattle.algebra.specs.Step.{Step, row, settle, fresh, step}
 use Rattle.weights.specs.declared.Component.{Component}
 use Rattle.weights.specs.declared.Language.{Language}
 use Rattle.weights.specs.Weights.{language}
-use Rattle.weights.specs.Languages.{componentsOf, countCheck, limitCheck}
-use Rattle.matrices.specs.Buffers.{matrixWords, matrixIn}
+use Rattle.weights.specs.Languages.{componentsOf}
+use Rattle.matrices.specs.Buffers.{matrixWords}
 use Rattle.matrices.specs.Steps.{Matrix, rowFits, solves}
 use Rattle.routes.specs.declared.StepsAnswer.{StepsAnswer}
 use Rattle.routes.specs.declared.StepsAnswer.the-variants.{Done, Refused as StepsRefused}
 use Rattle.routes.specs.declared.EquationAnswer.{EquationAnswer}
 use Rattle.routes.specs.declared.EquationAnswer.the-variants.{Yes, No, Refused as EquationRefused}
-use Rattle.guards.specs.Checks.{nodesCheck, lengthCheck, lawDCheck, lawUCheck, arcsCheck, routesCheck, manyCheck, listCheck, firstSettle}
-
--- the n x n matrix that a buffer holds, in the language
-abbrev pub matrixOf : Language → ℕ → List ℕ → Matrix
-matrixOf l n s = matrixIn (length (componentsOf l)) n s
+use Rattle.guards.specs.Checks.{nodesCase, lengthCase, arcsCase, routesCase, manyCase, listCase, callCases, firstSettle}
+use Rattle.guards.specs.OnNetwork.{OnNetwork, components, matrixOn, arcsOn}
+use Rattle.routes.specs.Stops.{StopsAt}
 
 -- ---- fresh
 
 -- 3, 5, 4, 9, 10
+abbrev pub freshCases : Language → ℕ → List ℕ → List Case
+freshCases l n r = callCases l (nodesCase n ∷ []) (lengthCase 2 n r ∷ []) []
+
+-- the first refusal of these
 abbrev pub freshCheck : Language → ℕ → List ℕ → Check
-freshCheck l n r = firstOf (nodesCheck n ∷ countCheck l ∷ limitCheck l ∷ lengthCheck 2 n r ∷ lawDCheck (componentsOf l) ∷ lawUCheck (componentsOf l) ∷ [])
+freshCheck l n r = checkOf (freshCases l n r)
 
--- the fresh matrix where the checks pass; on refusal r as it was
-abbrev pub freshLeftBy : Check → Language → ℕ → List ℕ → List ℕ
-freshLeftBy Passed l n r = matrixWords n (fresh (language (componentsOf l)))
-freshLeftBy (Refused x) l n r = r
-
--- what the call leaves in r, by its own checks
+-- what the call leaves in r: the fresh matrix; on refusal r as it was
 abbrev pub freshLeft : Language → ℕ → List ℕ → List ℕ
-freshLeft l n r = freshLeftBy (freshCheck l n r) l n r
+freshLeft l n r = ifPassed (freshCheck l n r) (matrixWords n (fresh (language (componentsOf l)))) r
+
+-- ---- a call on A and R
+
+-- 3, 5, 4, 9 (A, R), 10, 6 on A, R, and what a call on A and R has besides
+abbrev pub matricesCases : OnNetwork → List ℕ → List Case → List Case
+matricesCases N r rest =
+    callCases (N .language) (nodesCase (N .n) ∷ []) (lengthCase 1 (N .n) (N .arcs) ∷ lengthCase 2 (N .n) r ∷ [])
+    (arcsCase (components N) (N .n) (N .arcs) ∷ routesCase (components N) (N .n) r ∷ rest)
 
 -- ---- steps
 
@@ -64,42 +72,56 @@ unfoldable pub doneOf : List Component → ℕ → Matrix → Matrix → List St
 doneOf cs n A R [] = 0
 doneOf cs n A R (s ∷ steps) = cond (stepFits cs n A R s) (suc (doneOf cs n A (step (language cs) n A s R) steps)) 0
 
--- 3, 5, 4, 9 (A, R), 10, 6 on A, R, and then the checks that a call has besides
-abbrev pub matricesChecks : Language → ℕ → List ℕ → List ℕ → List Check → List Check
-matricesChecks l n a r rest =
-    nodesCheck n ∷ countCheck l ∷ limitCheck l ∷ lengthCheck 1 n a ∷ lengthCheck 2 n r ∷ lawDCheck (componentsOf l) ∷ lawUCheck (componentsOf l)
-    ∷ arcsCheck (componentsOf l) n a ∷ routesCheck (componentsOf l) n r ∷ rest
+-- 3, 5, 4, 9 (A, R), 10, 6 on A, R, 13, 7: all that is checked before the first step
+abbrev pub stepsCases : OnNetwork → List ℕ → List ℕ → List Case
+stepsCases N r list = matricesCases N r (manyCase list ∷ listCase (N .n) list ∷ [])
 
--- 3, 5, 4, 9 (A, R), 10, 6 on A, R, 13, 7
-abbrev pub stepsCheck : Language → ℕ → List ℕ → List ℕ → List ℕ → Check
-stepsCheck l n a r list = firstOf (matricesChecks l n a r (manyCheck list ∷ listCheck n list ∷ []))
+-- the first refusal of these
+abbrev pub stepsCheck : OnNetwork → List ℕ → List ℕ → Check
+stepsCheck N r list = checkOf (stepsCases N r list)
+
+-- the matrix after the list, up to the first step that is refused
+abbrev pub ranOf : OnNetwork → List ℕ → List ℕ → Matrix
+ranOf N r list = runOf (components N) (N .n) (arcsOn N) (matrixOn N r) (map stepOf list)
+
+-- how many of its steps are done
+abbrev pub countOf : OnNetwork → List ℕ → List ℕ → ℕ
+countOf N r list = doneOf (components N) (N .n) (arcsOn N) (matrixOn N r) (map stepOf list)
+
+-- 11, where k of m steps are done and k is not m
+abbrev pub sumCheck : ℕ → ℕ → Check
+sumCheck k m = cond (ltb k m) (Refused (Sum 0 k)) Passed
+
+-- 11 while running: at the first step that would store a sum above 983,025
+abbrev pub sumCase : OnNetwork → List ℕ → List ℕ → Case
+sumCase N r list = record {
+  check = sumCheck (countOf N r list) (length list);
+  tells = Sum 0;
+  due = λ k. StopsAt (components N) (N .n) (arcsOn N) (matrixOn N r) k (map stepOf list);
+}
+
+-- all that the call may refuse: its checks, and then 11
+abbrev pub runningCases : OnNetwork → List ℕ → List ℕ → List Case
+runningCases N r list = stepsCases N r list ++ sumCase N r list ∷ []
 
 -- the whole row of the answer: the refusal, and the steps done
 pub record StepsRow : Type 0 where
   pub told : Told
   pub done : ℕ
 
--- done with all m steps, or refused 11 at step k
-abbrev pub rowAfterRun : ℕ → ℕ → StepsRow
-rowAfterRun k m = record { told = cond (ltb k m) (told (Sum 0 k)) done; done = k }
+-- the row that the call answers: its first refusal, and the steps done, none where a check refuses
+abbrev pub stepsRow : OnNetwork → List ℕ → List ℕ → StepsRow
+stepsRow N r list = record { told = checkTold (checkOf (runningCases N r list)); done = ifPassed (stepsCheck N r list) (countOf N r list) 0 }
 
--- k of the m steps are done where the checks pass, and 11 is told where k is not m; beside another refusal none is
-abbrev pub stepsRowBy : Check → ℕ → ℕ → StepsRow
-stepsRowBy Passed k m = rowAfterRun k m
-stepsRowBy (Refused x) k m = record { told = told x; done = 0 }
+-- what the call leaves in r: the matrix after the steps that are done, also after 11, or r as it was where a check refuses
+abbrev pub stepsLeft : OnNetwork → List ℕ → List ℕ → List ℕ
+stepsLeft N r list = ifPassed (stepsCheck N r list) (matrixWords (N .n) (ranOf N r list)) r
 
--- the row that the call answers: its first refusal, else the steps done and 11 where these are not all
-abbrev pub stepsRow : Language → ℕ → List ℕ → List ℕ → List ℕ → StepsRow
-stepsRow l n a r list = stepsRowBy (stepsCheck l n a r list) (doneOf (componentsOf l) n (matrixOf l n a) (matrixOf l n r) (map stepOf list)) (length list)
-
--- what the buffer holds then: after 11 the earlier steps stand
-abbrev pub stepsLeftBy : Check → ℕ → Matrix → List ℕ → List ℕ
-stepsLeftBy Passed n R r = matrixWords n R
-stepsLeftBy (Refused x) n R r = r
-
--- what the call leaves in r: the matrix after the steps that are done, or r as it was where a check refuses
-abbrev pub stepsLeft : Language → ℕ → List ℕ → List ℕ → List ℕ → List ℕ
-stepsLeft l n a r list = stepsLeftBy (stepsCheck l n a r list) n (runOf (componentsOf l) n (matrixOf l n a) (matrixOf l n r) (map stepOf list)) r
+-- The steps done, in words: all of the list, or those before the step that is refused 11, or none.
+pub record StepsCounted (list : List ℕ) (row : StepsRow) : Type 0 where
+  pub whole : row .told ≡ done → row .done ≡ length list
+  pub stopped : (k : ℕ) → row .told ≡ told (Sum 0 k) → row .done ≡ k
+  pub refused : (x : Refusal) → ((k : ℕ) → x ≡ Sum 0 k → ⊥) → row .told ≡ told x → row .done ≡ 0
 
 -- what the code's answer says
 abbrev pub stepsSaid : StepsAnswer → StepsRow
@@ -109,22 +131,24 @@ stepsSaid (StepsRefused x k) = record { told = told x; done = k }
 -- ---- equation
 
 -- 3, 5, 4, 9 (A, R), 10, 6 on A, R
-abbrev pub equationCheck : Language → ℕ → List ℕ → List ℕ → Check
-equationCheck l n a r = firstOf (matricesChecks l n a r [])
+abbrev pub equationCases : OnNetwork → List ℕ → List Case
+equationCases N r = matricesCases N r []
+
+-- the first refusal of these
+abbrev pub equationCheck : OnNetwork → List ℕ → Check
+equationCheck N r = checkOf (equationCases N r)
 
 -- the whole row of the answer: the refusal, and yes or no
 pub record EquationRow : Type 0 where
   pub told : Told
   pub yes : Bool
 
--- yes or no where the checks pass; beside a refusal the field is zero, no
-abbrev pub equationRowBy : Check → Bool → EquationRow
-equationRowBy Passed b = record { told = done; yes = b }
-equationRowBy (Refused x) b = record { told = told x; yes = false }
-
 -- the row that the call answers: its first refusal, else whether R satisfies R = (A join R) best fresh
-abbrev pub equationRow : Language → ℕ → List ℕ → List ℕ → EquationRow
-equationRow l n a r = equationRowBy (equationCheck l n a r) (solves (componentsOf l) n (matrixOf l n a) (matrixOf l n r))
+abbrev pub equationRow : OnNetwork → List ℕ → EquationRow
+equationRow N r = record {
+  told = checkTold (equationCheck N r);
+  yes = ifPassed (equationCheck N r) (solves (components N) (N .n) (arcsOn N) (matrixOn N r)) false;
+}
 
 -- what the code's answer says
 abbrev pub equationSaid : EquationAnswer → EquationRow

@@ -1,3 +1,3 @@
+pub mod Stops
 pub mod Calls
 pub mod Ready
-pub mod Exact

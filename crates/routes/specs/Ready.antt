@@ -1,48 +1,31 @@
 -- What the inner functions say on the way to Calls: when a call's checks have passed, and runs on the words of a buffer.
 -- They join the code to Calls; nothing here has to be believed.
-use Prim.Native.Nat.{ℕ, suc, _≤_}
+use Prim.Native.Nat.{ℕ, suc}
 use mathlib.Core.Path.{_≡_}
 use mathlib.Core.Bool.{true, cond}
 use mathlib.Core.List.{List, [], _∷_}
 use Rattle.refusals.specs.declared.Check.the-variants.{Passed, Refused}
-use Rattle.refusals.specs.Checks.{firstOf}
 use Rattle.algebra.specs.Step as algebra
 use Rattle.algebra.specs.Step.{step, row, settle}
 use Rattle.weights.specs.declared.Component.{Component}
-use Rattle.weights.specs.declared.Language.{Language}
-use Rattle.weights.specs.declared.Places.{Places}
 use Rattle.weights.specs.Sizes.{places}
-use Rattle.weights.specs.Weights.{Sound, language}
-use Rattle.weights.specs.Laws.{testD, testU}
-use Rattle.weights.specs.Languages.{componentsOf, padded, placesOf, SmallLimits}
-use Rattle.matrices.specs.Buffers.{Square, matrixWords, matrixIn}
+use Rattle.weights.specs.Weights.{language}
+use Rattle.weights.specs.Languages.{placesOf}
+use Rattle.matrices.specs.Buffers.{matrixWords, matrixIn}
 use Rattle.matrices.specs.Steps.{Given}
-use Rattle.routes.specs.declared.Ready.{Ready}
-use Rattle.routes.specs.declared.Ready.the-variants.{Given as Places-given, Refused as Call-refused}
+use Rattle.guards.specs.declared.Ready.{Ready}
+use Rattle.guards.specs.declared.Ready.the-variants.{Given as Places-given, Refused as Call-refused}
+use Rattle.guards.specs.OnNetwork.{OnNetwork}
+use Rattle.guards.specs.Entrance.{Placed}
 use Rattle.routes.specs.declared.Step.{Step}
 use Rattle.routes.specs.declared.Step.the-variants.{Row, Settle}
 use Rattle.guards.specs.Checks.{isStep}
-use Rattle.routes.specs.Calls.{freshCheck, matricesChecks, stepFits}
-
--- the language in its places, lawful, and a number of nodes
-pub record Passing (l : Language) (n : ℕ) (p : Places) : Type 0 where
-  pub some : 1 ≤ n
-  pub few : n ≤ 16
-  pub placed : placesOf p ≡ padded places (componentsOf l)
-  pub limits : SmallLimits 65535 (placesOf p)
-  pub sound : Sound (placesOf p)
-  pub law-D : testD (placesOf p) ≡ true
-  pub law-U : testU (placesOf p) ≡ true
-
--- what the checks of fresh give: the places of a lawful language and a buffer of the right size, or the first refusal
-abbrev pub FreshReady : Language → ℕ → List ℕ → Ready → Type 0
-FreshReady l n r (Places-given p) = (freshCheck l n r ≡ Passed) × Passing l n p × Square n r
-FreshReady l n r (Call-refused x) = freshCheck l n r ≡ Refused x
+use Rattle.routes.specs.Calls.{equationCheck, stepFits}
 
 -- what the checks of a call on A and R give: the places of a lawful language and two well-formed matrices, or the first refusal
-abbrev pub MatricesReady : Language → ℕ → List ℕ → List ℕ → Ready → Type 0
-MatricesReady l n a r (Places-given p) = (firstOf (matricesChecks l n a r []) ≡ Passed) × Passing l n p × Given (placesOf p) n a r
-MatricesReady l n a r (Call-refused x) = firstOf (matricesChecks l n a r []) ≡ Refused x
+abbrev pub MatricesReady : OnNetwork → List ℕ → Ready → Type 0
+MatricesReady N r (Places-given p) = (equationCheck N r ≡ Passed) × Placed (N .language) p × Given (placesOf p) (N .n) (N .arcs) r
+MatricesReady N r (Call-refused x) = equationCheck N r ≡ Refused x
 
 -- the step that the code's step means
 abbrev pub stepMeant : Step → algebra.Step

@@ -1,6 +1,8 @@
 // The call that writes the fresh matrix.
-use super::Ready;
-use super::checks;
+use guards::Ready;
+use guards::check_length;
+use guards::check_nodes;
+use guards::entrance::enter;
 use refusals::Answer;
 use weights::Language;
 ghost use mathlib.Core.Path.{_≡_};
@@ -12,7 +14,7 @@ pub fn fresh(l: Language, n: u32, r: &mut [u32]) -> Answer
     ensures { λ x. ⌜ answerTold x ≡ checkTold (freshCheck l n (now (r .entry))) ⌝ }
     ensures { λ _. ⌜ now (r .exit) ≡ freshLeft l n (now (r .entry)) ⌝ }
 {
-    match checks::ready_to_write(l, n, r) {
+    match enter(l, check_nodes(n), check_length(2, n, r)) {
         Ready::Refused(x) => Answer::Refused(x),
         Ready::Given(p) => {
             matrices::fresh::fresh(p, n as usize, r);

@@ -6,7 +6,6 @@ pub mod fresh;
 
 use numbers::Node;
 use refusals::Refusal;
-use weights::Places;
 
 pub const MOST_STEPS: usize = 4096;
 
@@ -16,12 +15,6 @@ pub const FIRST_SETTLE: u32 = 256;
 pub enum Step {
     Row(Node),
     Settle(Node),
-}
-
-// What the checks of a call find: the language in its places, or a refusal.
-pub enum Ready {
-    Given(Places),
-    Refused(Refusal),
 }
 
 // All steps done, or refused after some.

@@ -1,10 +1,10 @@
 // The call that runs a list of steps, row steps and settles. It takes every input.
+use guards::Ready;
 use numbers::Node;
 use refusals::Check;
 use refusals::Refusal;
 use routes::FIRST_SETTLE;
 use routes::MOST_STEPS;
-use routes::Ready;
 use routes::Step;
 use routes::StepsAnswer;
 use routes::checks;
@@ -14,13 +14,14 @@ ghost use mathlib.Core.Path.{_≡_};
 ghost use mathlib.Core.Bool.{true};
 ghost use mathlib.Core.List.{[], _∷_, map};
 ghost use Prim.Native.Nat.{_≤_};
-ghost use Rattle.refusals.specs.Checks.{firstOf};
+ghost use Rattle.refusals.specs.Cases.{checkOf};
 ghost use Rattle.weights.specs.Languages.{placesOf};
 ghost use Rattle.weights.specs.Sizes.{places};
 ghost use Rattle.matrices.specs.Buffers.{matrixIn};
 ghost use Rattle.matrices.specs.Steps.{Given};
 ghost use lib.ListN.{length};
-ghost use Rattle.guards.specs.Checks.{isStep, manyCheck, listCheck, mostSteps};
+ghost use Rattle.guards.specs.Checks.{isStep, manyCase, listCase, mostSteps};
+ghost use Rattle.guards.specs.OnNetwork.{onNetwork};
 ghost use Rattle.routes.specs.Calls.{stepOf, stepFits, stepsRow, stepsLeft, stepsSaid};
 ghost use Rattle.routes.specs.Ready.{stepMeant, stepLeft, AllSteps, runLeft, runDone};
 
@@ -48,7 +49,7 @@ fn is_step(n: usize, x: u32) -> bool
 
 // 13, then 7 at the first number that is no step.
 fn check_list(n: usize, list: &[u32]) -> Check
-    ensures { λ c. ⌜ c ≡ firstOf (manyCheck (now (list .entry)) ∷ listCheck n (now (list .entry)) ∷ []) ⌝ }
+    ensures { λ c. ⌜ c ≡ checkOf (manyCase (now (list .entry)) ∷ listCase n (now (list .entry)) ∷ []) ⌝ }
 {
     if MOST_STEPS < list.len() {
         return Check::Refused(Refusal::TooMany { which: 0, place: 0 });
@@ -99,8 +100,8 @@ fn run(p: Places, n: usize, a: &[u32], r: &mut [u32], list: &[u32]) -> u32
 
 // Runs a list of steps on r. Refuses 3, 5, 4, 9, 10, 6 on A and R, 13, 7, and 11 while running: then the earlier steps stand.
 pub fn steps(l: Language, n: u32, a: &[u32], r: &mut [u32], list: &[u32]) -> StepsAnswer
-    ensures { λ x. ⌜ stepsSaid x ≡ stepsRow l n (now (a .entry)) (now (r .entry)) (now (list .entry)) ⌝ }
-    ensures { λ _. ⌜ now (r .exit) ≡ stepsLeft l n (now (a .entry)) (now (r .entry)) (now (list .entry)) ⌝ }
+    ensures { λ x. ⌜ stepsSaid x ≡ stepsRow (onNetwork l n (now (a .entry))) (now (r .entry)) (now (list .entry)) ⌝ }
+    ensures { λ _. ⌜ now (r .exit) ≡ stepsLeft (onNetwork l n (now (a .entry))) (now (r .entry)) (now (list .entry)) ⌝ }
 {
     match checks::ready(l, n, a, r) {
         Ready::Refused(x) => StepsAnswer::Refused {

@@ -1,1 +1,2 @@
 pub mod TableSingles
+pub mod TableCases

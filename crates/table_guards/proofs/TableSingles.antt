@@ -1,6 +1,6 @@
 -- The single checks that only forwarding has, one by one: when each passes, and what is known then.
 use Prim.Native.Nat.{ℕ, _*_, _≤_, _<_}
-use mathlib.Core.Path.{_≡_}
+use mathlib.Core.Path.{_≡_, sym, _∙_}
 use mathlib.Core.Bool.{Bool, true, false, not, _||_}
 use mathlib.Core.List.{List}
 use native.Mathlib.Omega.{arith}
@@ -17,24 +17,43 @@ use Rattle.weights.specs.Laws.{testC}
 use Rattle.modes.specs.declared.Mode.{Mode}
 use Rattle.modes.specs.Entries.{needsC}
 use Rattle.tables.specs.Tables.{Sized}
-use Rattle.table_guards.specs.Checks.{mostDestinations, destinationsCheck, tableLengthCheck, lawCCheck}
+use Rattle.table_guards.specs.Checks.{mostDestinations, destinationsCase, tableLengthCase, lawCCheck, tableLengthMeasured}
+use Rattle.refusals.specs.declared.Check.{Check}
+use Rattle.guards.specs.Checks.{mostNodes}
 
-pub destinations-high : (m : ℕ) → mostDestinations < m → Refused (Size 2 0) ≡ destinationsCheck m
+pub destinations-high : (m : ℕ) → mostDestinations < m → Refused (Size 2 0) ≡ destinationsCase m .check
 destinations-high m h = rw (lt-leb m mostDestinations h)
 
-pub destinations-in : (m : ℕ) → m ≤ mostDestinations → Passed ≡ destinationsCheck m
+pub destinations-in : (m : ℕ) → m ≤ mostDestinations → Passed ≡ destinationsCase m .check
 destinations-in m h = rw (le-leb m mostDestinations h)
 
-pub destinations-passed : (m : ℕ) → destinationsCheck m ≡ Passed → m ≤ 32
+pub destinations-passed : (m : ℕ) → destinationsCase m .check ≡ Passed → m ≤ 32
 destinations-passed m e = leb-true m 32 (unless-passes (leb m 32) (Size 2 0) e)
 
-pub length-other : (which n m : ℕ) (s : List ℕ) → (length s ≡ n * (m * entryWords) → ⊥) → Refused (Length which 0) ≡ tableLengthCheck which n m s
+pub length-other : (which n m : ℕ) (s : List ℕ) → (length s ≡ n * (m * entryWords) → ⊥) → Refused (Length which 0) ≡ tableLengthCase which n m s .check
 length-other which n m s f = rw (ne-eqb (length s) (n * (m * entryWords)) f)
 
-pub length-same : (which n m : ℕ) (s : List ℕ) → length s ≡ n * (m * entryWords) → Passed ≡ tableLengthCheck which n m s
+pub length-same : (which n m : ℕ) (s : List ℕ) → length s ≡ n * (m * entryWords) → Passed ≡ tableLengthCase which n m s .check
 length-same which n m s e = rw (eq-eqb (length s) (n * (m * entryWords)) e)
 
-pub table-length-passed : (which n m : ℕ) (s : List ℕ) → n ≤ 16 → m ≤ 32 → tableLengthCheck which n m s ≡ Passed → Sized n m s
+module _ (which n m : ℕ) (s : List ℕ) where
+  both-few : n ≤ mostNodes → m ≤ mostDestinations → tableLengthMeasured which n m s ≡ tableLengthCase which n m s .check
+  both-few h k = rw (le-leb n mostNodes h, le-leb m mostDestinations k)
+
+  -- a length that is measured, where n is at most 16 and m at most 32
+  pub table-measured : {c : Check} → (n ≤ mostNodes) × (m ≤ mostDestinations) → c ≡ tableLengthMeasured which n m s → c ≡ tableLengthCase which n m s .check
+  table-measured (h, k) e = e ∙ both-few h k
+
+  pub table-length-measured : {c : Check} → n ≤ mostNodes → m ≤ mostDestinations → c ≡ tableLengthCase which n m s .check → c ≡ tableLengthMeasured which n m s
+  table-length-measured h k e = e ∙ sym (both-few h k)
+
+pub many-nodes-unmeasured : (which n m : ℕ) (s : List ℕ) → mostNodes < n → Passed ≡ tableLengthMeasured which n m s
+many-nodes-unmeasured which n m s h = rw (lt-leb n mostNodes h)
+
+pub many-destinations-unmeasured : (which n m : ℕ) (s : List ℕ) → n ≤ mostNodes → mostDestinations < m → Passed ≡ tableLengthMeasured which n m s
+many-destinations-unmeasured which n m s h k = rw (le-leb n mostNodes h, lt-leb m mostDestinations k)
+
+pub table-length-passed : (which n m : ℕ) (s : List ℕ) → n ≤ 16 → m ≤ 32 → tableLengthCase which n m s .check ≡ Passed → Sized n m s
 table-length-passed which n m s h k e = record {
   few-nodes = h;
   few-destinations = k;

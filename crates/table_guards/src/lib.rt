@@ -1,19 +1,21 @@
-// Three single checks that only forwarding has: 3 on m, 9 on a table, 10 for law C. Those of the mode and of 12 are in `forwarding`.
+// The single checks that only forwarding has: 3 on m and on the mode, 9 on a table, 10 for law C. That of 6 on M is in `tables`, that of
+// 12 in `forwarding`.
+use guards::MOST_NODES;
+use modes::Chosen;
 use modes::Mode;
 use refusals::Check;
 use refusals::Refusal;
 use weights::ENTRY_WORDS;
 use weights::Places;
 ghost use mathlib.Core.Path.{_≡_};
-ghost use Prim.Native.Nat.{_≤_};
 ghost use Rattle.weights.specs.Languages.{placesOf};
-ghost use Rattle.table_guards.specs.Checks.{destinationsCheck, tableLengthCheck, lawCCheck};
+ghost use Rattle.table_guards.specs.Checks.{destinationsCase, chosenCheck, chosenMode, tableLengthMeasured, lawCCheck};
 
 pub const MOST_DESTINATIONS: u32 = 32;
 
 // 3: the number of destinations.
 pub fn check_destinations(m: u32) -> Check
-    ensures { λ c. ⌜ c ≡ destinationsCheck m ⌝ }
+    ensures { λ c. ⌜ c ≡ destinationsCase m .check ⌝ }
 {
     if MOST_DESTINATIONS < m {
         return Check::Refused(Refusal::Size { which: 2, place: 0 });
@@ -21,12 +23,38 @@ pub fn check_destinations(m: u32) -> Check
     Check::Passed
 }
 
-// 9: the words of a table.
-pub fn check_table_length(which: u32, n: usize, m: usize, s: &[u32]) -> Check
-    requires { ⌜ (n ≤ 16) × (m ≤ 32) ⌝ }
-    ensures { λ c. ⌜ c ≡ tableLengthCheck which n m (now (s .entry)) ⌝ }
+// 3: a mode was chosen.
+pub fn check_mode(chosen: Chosen) -> Check
+    ensures { λ c. ⌜ c ≡ chosenCheck chosen ⌝ }
 {
-    let words = n * (m * ENTRY_WORDS);
+    match chosen {
+        Chosen::Fits(_) => Check::Passed,
+        Chosen::Unfit => Check::Refused(Refusal::Size { which: 3, place: 0 }),
+    }
+}
+
+// The mode chosen; where none was, 3 is told before a mode is asked for.
+pub fn chosen_mode(chosen: Chosen) -> Mode
+    ensures { λ mode. ⌜ mode ≡ chosenMode chosen ⌝ }
+{
+    match chosen {
+        Chosen::Fits(mode) => mode,
+        Chosen::Unfit => Mode::Plain,
+    }
+}
+
+// 9: the words of a table; passed where n is over 16 or m over 32, since 3 is told before.
+pub fn check_table_length(which: u32, n: u32, m: u32, s: &[u32]) -> Check
+    ensures { λ c. ⌜ c ≡ tableLengthMeasured which n m (now (s .entry)) ⌝ }
+{
+    if MOST_NODES < n {
+        return Check::Passed;
+    }
+    if MOST_DESTINATIONS < m {
+        return Check::Passed;
+    }
+    let row = m as usize * ENTRY_WORDS;
+    let words = n as usize * row;
     if s.len() != words {
         return Check::Refused(Refusal::Length { which, place: 0 });
     }

@@ -6,7 +6,6 @@ use mathlib.Core.Bool.{Bool, true, false, cond, _&&_}
 use mathlib.Core.List.{List, [], _∷_, _++_}
 use lib.Dec.{leb}
 use lib.ListN.{length, getD, take, drop, replicate}
-use Rattle.refusals.specs.declared.Refusal.{Refusal}
 use Rattle.refusals.specs.declared.Refusal.the-variants.{Value}
 use Rattle.refusals.specs.declared.Check.{Check}
 use Rattle.weights.specs.declared.Component.{Component}
@@ -18,6 +17,7 @@ use Rattle.modes.specs.declared.Mode.{Mode}
 use Rattle.tables.specs.declared.EntryRead.{EntryRead}
 use Rattle.tables.specs.declared.EntryRead.the-variants.{Good, Malformed}
 use Rattle.modes.specs.Entries.{Entry, empty, mapped, entryOf, largestT}
+use Rattle.refusals.specs.Cases.{Case}
 
 -- ---- the words of an entry
 
@@ -89,7 +89,7 @@ tableIn k m s i d = decodedEntry k (entryAt s (tablePlace m i d))
 abbrev pub wellFormedEntry : Mode → ℕ → List Component → List ℕ → ℕ → Bool
 wellFormedEntry mode cap cs s p = isGoodEntry (readingEntry mode cap cs (entryAt s p))
 
--- Refusal 6 on a table of n nodes and m destinations: its first malformed entry, by rows.
+-- the check of a table: its first malformed entry, by rows
 abbrev pub tableCheck : ℕ → Mode → ℕ → List Component → ℕ → ℕ → List ℕ → Check
 tableCheck which mode cap cs n m s = firstMalformed (wellFormedEntry mode cap cs s) entryWords which 0 (n * m)
 
@@ -104,12 +104,16 @@ pub record FormedTable (mode : Mode) (cap : ℕ) (cs : List Component) (n m : �
   pub sized : Sized n m s
   pub reads : (i d : ℕ) → i < n → d < m → wellFormedEntry mode cap cs s (tablePlace m i d) ≡ true
 
--- r is refusal 6 at entry (node, destination), which is malformed, and every entry before it, by rows, is well-formed
-pub record AtFirstEntry (which : ℕ) (mode : Mode) (cap : ℕ) (cs : List Component) (n m : ℕ) (s : List ℕ) (r : Refusal) : Type 0 where
+-- the place is that of entry (node, destination), which is malformed, and every entry before it, by rows, is well-formed
+pub record AtFirstMalformedEntry (mode : Mode) (cap : ℕ) (cs : List Component) (n m : ℕ) (s : List ℕ) (place : ℕ) : Type 0 where
   pub node : ℕ
   pub destination : ℕ
   pub node-below : node < n
   pub destination-below : destination < m
   pub fails : wellFormedEntry mode cap cs s (tablePlace m node destination) ≡ false
   pub before : (i d : ℕ) → i < n → d < m → i * m + d < node * m + destination → wellFormedEntry mode cap cs s (tablePlace m i d) ≡ true
-  pub told : r ≡ Value which (tablePlace m node destination)
+  pub here : place ≡ tablePlace m node destination
+
+-- refusal 6 on a table of n nodes and m destinations: at its first malformed entry, by rows
+abbrev pub tableCase : ℕ → Mode → ℕ → List Component → ℕ → ℕ → List ℕ → Case
+tableCase which mode cap cs n m s = record { check = tableCheck which mode cap cs n m s; tells = Value which; due = AtFirstMalformedEntry mode cap cs n m s }

@@ -5,18 +5,18 @@ use Prim.Native.Nat.{ℕ}
 use mathlib.Core.Bool.{cond}
 use mathlib.Core.List.{List, [], _∷_, _++_}
 use mathlib.Core.Option.{Option, some, none as nothing}
-use lib.Dec.{leb, eqb}
-use lib.ListN.{length, drop}
-use Rattle.refusals.specs.declared.Refusal.the-variants.{Length}
+use lib.Dec.{eqb}
+use lib.ListN.{drop}
 use Rattle.refusals.specs.declared.Check.{Check}
-use Rattle.refusals.specs.declared.Check.the-variants.{Passed, Refused}
-use Rattle.refusals.specs.Told.{told, done}
-use Rattle.refusals.specs.Checks.{unless, firstOf, checkTold}
+use Rattle.refusals.specs.Told.{done}
+use Rattle.refusals.specs.Checks.{checkTold, ifPassed}
+use Rattle.refusals.specs.declared.Told.{Told}
+use Rattle.refusals.specs.Cases.{Case, checkOf}
 use Rattle.weights.specs.declared.Language.{Language}
-use Rattle.weights.specs.Languages.{countCheck, limitCheck}
-use Rattle.laws.specs.Report.{Report, report}
+use Rattle.weights.specs.Languages.{languageCases}
+use Rattle.laws.specs.Report.{report}
 use Rattle.routes.specs.Calls.{freshCheck, StepsRow, stepsRow, EquationRow, equationRow}
-use Rattle.forwarding.specs.Calls.{forwardCheck}
+use Rattle.forwarding.specs.Calls.{OnTables, forwardCheck}
 use Rattle.hops.specs.Calls.{HopRow, hopRow}
 use Rattle.handover.specs.Calls.{LenderRow, lenderRow, rowPart}
 use Rattle.files.specs.Answers.{Row, fileRow, arcsAfter, mappingAfter}
@@ -24,38 +24,38 @@ use Rattle.door.specs.declared.Reply.{Reply}
 use Rattle.door.specs.Replies.{replyOf, isDone}
 use Rattle.door.specs.Reports.{reportWords, lawsWords, heldLaws}
 use Rattle.door.specs.Problems.{problemWords, problemOf}
-
--- 9: the buffer has at least so many words
-abbrev pub roomFor : ℕ → ℕ → List ℕ → Check
-roomFor which words s = unless (leb words (length s)) (Length which 0)
+use Rattle.guards.specs.OnNetwork.{OnNetwork}
+use Rattle.files.specs.Cases.{shortCase, fileCases}
 
 -- ---- read
 
 -- 9 on arcs (1), mapping (3), problem (6), before the file is looked at
-abbrev pub roomCheck : List ℕ → List ℕ → List ℕ → Check
-roomCheck arcs mapping problem = firstOf (roomFor 1 1024 arcs ∷ roomFor 3 2560 mapping ∷ roomFor 6 problemWords problem ∷ [])
+abbrev pub roomCases : List ℕ → List ℕ → List ℕ → List Case
+roomCases arcs mapping problem = shortCase 1 1024 arcs ∷ shortCase 3 2560 mapping ∷ shortCase 6 problemWords problem ∷ []
 
--- a buffer that is too short, else what the file tells
-abbrev pub readReplyBy : Check → Row → Reply
-readReplyBy Passed w = replyOf (w .told) 0
-readReplyBy (Refused x) w = replyOf (told x) 0
+-- the first refusal of these
+abbrev pub roomCheck : List ℕ → List ℕ → List ℕ → Check
+roomCheck arcs mapping problem = checkOf (roomCases arcs mapping problem)
+
+-- .. and then the file: all that `tronglephu_read` may refuse
+abbrev pub readReplyCases : List ℕ → List ℕ → List ℕ → List ℕ → List Case
+readReplyCases file arcs mapping problem = roomCases arcs mapping problem ++ fileCases file
+
+-- a buffer that is too short, else what the reader tells
+abbrev pub readTold : List ℕ → List ℕ → List ℕ → List ℕ → Told
+readTold file arcs mapping problem = ifPassed (roomCheck arcs mapping problem) (fileRow file arcs mapping .told) (checkTold (roomCheck arcs mapping problem))
 
 -- the answer of `tronglephu_read`
 abbrev pub readReply : List ℕ → List ℕ → List ℕ → List ℕ → Reply
-readReply file arcs mapping problem = readReplyBy (roomCheck arcs mapping problem) (fileRow file arcs mapping)
-
--- a buffer after the reader, which is not called where a buffer is too short
-abbrev pub leftBy : Check → List ℕ → List ℕ → List ℕ
-leftBy Passed after s = after
-leftBy (Refused x) after s = s
+readReply file arcs mapping problem = replyOf (readTold file arcs mapping problem) 0
 
 -- what the arcs hold after it
 abbrev pub arcsLeft : List ℕ → List ℕ → List ℕ → List ℕ → List ℕ
-arcsLeft file arcs mapping problem = leftBy (roomCheck arcs mapping problem) (arcsAfter file arcs mapping) arcs
+arcsLeft file arcs mapping problem = ifPassed (roomCheck arcs mapping problem) (arcsAfter file arcs mapping) arcs
 
 -- what the mapping holds after it
 abbrev pub mappingLeft : List ℕ → List ℕ → List ℕ → List ℕ → List ℕ
-mappingLeft file arcs mapping problem = leftBy (roomCheck arcs mapping problem) (mappingAfter file arcs mapping) mapping
+mappingLeft file arcs mapping problem = ifPassed (roomCheck arcs mapping problem) (mappingAfter file arcs mapping) mapping
 
 -- the twelve words of a problem that is read, and what the buffer held after them
 abbrev pub problemAfter : Row → List ℕ → List ℕ
@@ -63,31 +63,25 @@ problemAfter w problem = cond (isDone (w .told)) (problemOf (w .n) (w .m) (w .mo
 
 -- what the problem holds after it
 abbrev pub problemLeft : List ℕ → List ℕ → List ℕ → List ℕ → List ℕ
-problemLeft file arcs mapping problem = leftBy (roomCheck arcs mapping problem) (problemAfter (fileRow file arcs mapping) problem) problem
+problemLeft file arcs mapping problem = ifPassed (roomCheck arcs mapping problem) (problemAfter (fileRow file arcs mapping) problem) problem
 
 -- ---- laws
 
 -- 5, 4, then 9 on the report (6)
-abbrev pub lawsCheck : Language → List ℕ → Check
-lawsCheck l s = firstOf (countCheck l ∷ limitCheck l ∷ roomFor 6 reportWords s ∷ [])
+abbrev pub reportCases : Language → List ℕ → List Case
+reportCases l s = languageCases l ++ shortCase 6 reportWords s ∷ []
 
--- a refusal, else which laws are held
-abbrev pub lawsReplyBy : Check → Report → Reply
-lawsReplyBy Passed w = replyOf done (heldLaws (w .lawD) (w .lawU) (w .lawC))
-lawsReplyBy (Refused x) w = replyOf (told x) 0
+-- the first refusal of these
+abbrev pub reportCheck : Language → List ℕ → Check
+reportCheck l s = checkOf (reportCases l s)
 
--- the answer of `tronglephu_laws`
+-- the answer of `tronglephu_laws`: a refusal, else which laws are held
 abbrev pub lawsReply : Language → List ℕ → Reply
-lawsReply l s = lawsReplyBy (lawsCheck l s) (report l)
+lawsReply l s = replyOf (checkTold (reportCheck l s)) (ifPassed (reportCheck l s) (heldLaws (report l .lawD) (report l .lawU) (report l .lawC)) 0)
 
--- the words of the three laws, and what the buffer held after them
-abbrev pub reportLeftBy : Check → Report → List ℕ → List ℕ
-reportLeftBy Passed w s = lawsWords (w .lawD) (w .lawU) (w .lawC) ++ drop reportWords s
-reportLeftBy (Refused x) w s = s
-
--- what the report holds after it
+-- what the report holds after it: the words of the three laws, and what the buffer held after them
 abbrev pub reportLeft : Language → List ℕ → List ℕ
-reportLeft l s = reportLeftBy (lawsCheck l s) (report l) s
+reportLeft l s = ifPassed (reportCheck l s) (lawsWords (report l .lawD) (report l .lawU) (report l .lawC) ++ drop reportWords s) s
 
 -- ---- fresh, steps, equation
 
@@ -100,22 +94,22 @@ abbrev pub stepsReplyOf : StepsRow → Reply
 stepsReplyOf w = replyOf (w .told) (w .done)
 
 -- the answer of `tronglephu_steps`
-abbrev pub stepsReply : Language → ℕ → List ℕ → List ℕ → List ℕ → Reply
-stepsReply l n a r list = stepsReplyOf (stepsRow l n a r list)
+abbrev pub stepsReply : OnNetwork → List ℕ → List ℕ → Reply
+stepsReply N r list = stepsReplyOf (stepsRow N r list)
 
 -- 1 yes, 0 no
 abbrev pub equationReplyOf : EquationRow → Reply
 equationReplyOf w = replyOf (w .told) (cond (w .yes) 1 0)
 
 -- the answer of `tronglephu_equation`
-abbrev pub equationReply : Language → ℕ → List ℕ → List ℕ → Reply
-equationReply l n a r = equationReplyOf (equationRow l n a r)
+abbrev pub equationReply : OnNetwork → List ℕ → Reply
+equationReply N r = equationReplyOf (equationRow N r)
 
 -- ---- forward, next hop, handover
 
 -- the answer of `tronglephu_forward`
-abbrev pub forwardReply : Language → ℕ → ℕ → ℕ → List ℕ → List ℕ → List ℕ → List ℕ → Reply
-forwardReply l n m mode a r mapping f = replyOf (checkTold (forwardCheck l n m mode a r mapping f)) 0
+abbrev pub forwardReply : OnTables → List ℕ → Reply
+forwardReply T f = replyOf (checkTold (forwardCheck T f)) 0
 
 -- the node, or 255 for none
 abbrev pub nodeOrNone : Option ℕ → ℕ
@@ -127,16 +121,16 @@ abbrev pub hopReplyOf : HopRow → Reply
 hopReplyOf w = replyOf (w .told) (cond (isDone (w .told)) (nodeOrNone (w .node)) 0)
 
 -- the answer of `tronglephu_next_hop`
-abbrev pub hopReply : Language → ℕ → List ℕ → List ℕ → ℕ → ℕ → Reply
-hopReply l n a r i j = hopReplyOf (hopRow l n a r i j)
+abbrev pub hopReply : OnNetwork → List ℕ → ℕ → ℕ → Reply
+hopReply N r i j = hopReplyOf (hopRow N r i j)
 
 -- the number of the buffer that lends
 abbrev pub handoverReplyOf : LenderRow → Reply
 handoverReplyOf w = replyOf (w .told) (w .buffer)
 
 -- the answer of `tronglephu_handover`
-abbrev pub handoverReply : Language → ℕ → List ℕ → List ℕ → List ℕ → ℕ → Reply
-handoverReply l n a standing newer i = handoverReplyOf (lenderRow l n a standing newer i)
+abbrev pub handoverReply : OnNetwork → List ℕ → List ℕ → ℕ → Reply
+handoverReply N standing newer i = handoverReplyOf (lenderRow N standing newer i)
 
 -- the row that the forwarder gets, by the number of the buffer that lends: none where the call refuses
 abbrev pub rowLentBy : ℕ → ℕ → ℕ → List ℕ → List ℕ → List ℕ

@@ -11,7 +11,8 @@ use handover::LenderAnswer;
 use hops::HopAnswer;
 ghost use mathlib.Core.Path.{_≡_};
 ghost use Rattle.door.specs.Languages.{languageOf};
-ghost use Rattle.forwarding.specs.Calls.{forwardLeft};
+ghost use Rattle.guards.specs.OnNetwork.{onNetwork};
+ghost use Rattle.forwarding.specs.Calls.{onTables, forwardLeft};
 ghost use Rattle.tronglephu.specs.Calls.{forwardReply, hopReply, handoverReply};
 
 // Makes f the forwarding table.
@@ -26,8 +27,8 @@ pub extern "C" fn tronglephu_forward(
     mapping: &[u32],
     f: &mut [u32],
 ) -> Reply
-    ensures { λ x. ⌜ x ≡ forwardReply (languageOf (now (numbers .entry))) n m mode (now (a .entry)) (now (r .entry)) (now (mapping .entry)) (now (f .entry)) ⌝ }
-    ensures { λ _. ⌜ now (f .exit) ≡ forwardLeft (languageOf (now (numbers .entry))) n m mode (now (a .entry)) (now (r .entry)) (now (mapping .entry)) (now (f .entry)) ⌝ }
+    ensures { λ x. ⌜ x ≡ forwardReply (onTables (onNetwork (languageOf (now (numbers .entry))) n (now (a .entry))) m mode (now (r .entry)) (now (mapping .entry))) (now (f .entry)) ⌝ }
+    ensures { λ _. ⌜ now (f .exit) ≡ forwardLeft (onTables (onNetwork (languageOf (now (numbers .entry))) n (now (a .entry))) m mode (now (r .entry)) (now (mapping .entry))) (now (f .entry)) ⌝ }
 {
     answered(forwarding::forward::forward(language(numbers), n, m, mode, a, r, mapping, f))
 }
@@ -42,7 +43,7 @@ pub extern "C" fn tronglephu_next_hop(
     i: u32,
     j: u32,
 ) -> Reply
-    ensures { λ x. ⌜ x ≡ hopReply (languageOf (now (numbers .entry))) n (now (a .entry)) (now (r .entry)) i j ⌝ }
+    ensures { λ x. ⌜ x ≡ hopReply (onNetwork (languageOf (now (numbers .entry))) n (now (a .entry))) (now (r .entry)) i j ⌝ }
 {
     match hops::next_hop::next_hop(language(numbers), n, a, r, i, j) {
         HopAnswer::Hop(node) => done(node.0 as u32),
@@ -61,7 +62,7 @@ pub extern "C" fn tronglephu_handover(
     newer: &[u32],
     i: u32,
 ) -> Reply
-    ensures { λ x. ⌜ x ≡ handoverReply (languageOf (now (numbers .entry))) n (now (a .entry)) (now (standing .entry)) (now (newer .entry)) i ⌝ }
+    ensures { λ x. ⌜ x ≡ handoverReply (onNetwork (languageOf (now (numbers .entry))) n (now (a .entry))) (now (standing .entry)) (now (newer .entry)) i ⌝ }
 {
     match handover::lending::lender(language(numbers), n, a, standing, newer, i) {
         LenderAnswer::Newer => done(NEWER),

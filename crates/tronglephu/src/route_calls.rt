@@ -8,6 +8,7 @@ use routes::EquationAnswer;
 use routes::StepsAnswer;
 ghost use mathlib.Core.Path.{_≡_};
 ghost use Rattle.door.specs.Languages.{languageOf};
+ghost use Rattle.guards.specs.OnNetwork.{onNetwork};
 ghost use Rattle.routes.specs.Calls.{freshLeft, stepsLeft};
 ghost use Rattle.tronglephu.specs.Calls.{freshReply, stepsReply, equationReply};
 
@@ -29,8 +30,8 @@ pub extern "C" fn tronglephu_steps(
     r: &mut [u32],
     list: &[u32],
 ) -> Reply
-    ensures { λ x. ⌜ x ≡ stepsReply (languageOf (now (numbers .entry))) n (now (a .entry)) (now (r .entry)) (now (list .entry)) ⌝ }
-    ensures { λ _. ⌜ now (r .exit) ≡ stepsLeft (languageOf (now (numbers .entry))) n (now (a .entry)) (now (r .entry)) (now (list .entry)) ⌝ }
+    ensures { λ x. ⌜ x ≡ stepsReply (onNetwork (languageOf (now (numbers .entry))) n (now (a .entry))) (now (r .entry)) (now (list .entry)) ⌝ }
+    ensures { λ _. ⌜ now (r .exit) ≡ stepsLeft (onNetwork (languageOf (now (numbers .entry))) n (now (a .entry))) (now (r .entry)) (now (list .entry)) ⌝ }
 {
     match steps::steps(language(numbers), n, a, r, list) {
         StepsAnswer::Done(count) => done(count),
@@ -41,7 +42,7 @@ pub extern "C" fn tronglephu_steps(
 // Does r satisfy the routing equation? 1 yes, 0 no.
 #[no_mangle]
 pub extern "C" fn tronglephu_equation(numbers: &[u16], n: u32, a: &[u32], r: &[u32]) -> Reply
-    ensures { λ x. ⌜ x ≡ equationReply (languageOf (now (numbers .entry))) n (now (a .entry)) (now (r .entry)) ⌝ }
+    ensures { λ x. ⌜ x ≡ equationReply (onNetwork (languageOf (now (numbers .entry))) n (now (a .entry))) (now (r .entry)) ⌝ }
 {
     match routes::equation::equation(language(numbers), n, a, r) {
         EquationAnswer::Yes => done(1),

@@ -19,7 +19,7 @@ use Rattle.weights.specs.declared.Language.{Language}
 use Rattle.weights.specs.declared.Places.{Places}
 use Rattle.weights.specs.Sizes.{places}
 use Rattle.weights.specs.Weights.{Sound, SoundLimit}
-use Rattle.weights.specs.Languages.{componentsOf, countCheck, limitCheck, soundLimit, limitsFrom, padded, placesOf, languageCheck}
+use Rattle.weights.specs.Languages.{componentsOf, countCase, limitCase, soundLimit, limitsFrom, padded, placesOf, languageCheck}
 
 -- ---- the count
 
@@ -29,8 +29,8 @@ count-low l h = rw (lt-leb 1 (l .count) h)
 pub count-high : (l : Language) → places < l .count → languageCheck l ≡ Refused (BadCount 0 0)
 count-high l h = rw (lt-leb (l .count) places h, and-false)
 
-pub count-in : (l : Language) → 1 ≤ l .count → l .count ≤ places → languageCheck l ≡ limitCheck l
-count-in l h k = rw (le-leb 1 (l .count) h, le-leb (l .count) places k) (or-passed (limitCheck l))
+pub count-in : (l : Language) → 1 ≤ l .count → l .count ≤ places → languageCheck l ≡ limitCase l .check
+count-in l h k = rw (le-leb 1 (l .count) h, le-leb (l .count) places k) (or-passed (limitCase l .check))
 
 -- ---- the limits
 
@@ -107,11 +107,11 @@ bad-none p e f g h = rw (e, f, g, h)
 
 -- a language that passes has sound limits
 pub check-sound : (l : Language) → languageCheck l ≡ Passed → Sound (componentsOf l)
-check-sound l e = limits-sound 0 (componentsOf l) (first-passes (countCheck l ∷ limitCheck l ∷ []) e .1 .0)
+check-sound l e = limits-sound 0 (componentsOf l) (first-passes (countCase l .check ∷ limitCase l .check ∷ []) e .1 .0)
 
 -- .. and a count of 1 to 4
 pub sound-count : (l : Language) → languageCheck l ≡ Passed → (1 ≤ l .count) × (l .count ≤ places) × Sound (componentsOf l)
-sound-count l e = go (leb 1 (l .count)) (leb (l .count) places) refl refl (first-passes (countCheck l ∷ limitCheck l ∷ []) e .0)
+sound-count l e = go (leb 1 (l .count)) (leb (l .count) places) refl refl (first-passes (countCase l .check ∷ limitCase l .check ∷ []) e .0)
   where
     go : (a b : Bool) → leb 1 (l .count) ≡ a → leb (l .count) places ≡ b → unless (a && b) (BadCount 0 0) ≡ Passed → (1 ≤ l .count) × (l .count ≤ places) × Sound (componentsOf l)
     go true true p q h = (leb-true 1 (l .count) p, leb-true (l .count) places q, check-sound l e)

@@ -1,15 +1,15 @@
 -- What the code's languages mean, and the checks of a language (refusals 5 and 4).
--- To be believed: all but `placesOf` and `CheckSays`, which join the code to the rest.
+-- To be believed: all but `limitsFrom`, `padded`, `placesOf` and `CheckSays`, which join the code to the rest.
 use Prim.Native.Nat.{ℕ, zero, suc, _≤_}
 use mathlib.Core.Path.{_≡_}
-use mathlib.Core.Bool.{Bool, true, cond, _&&_}
+use mathlib.Core.Bool.{Bool, true, _&&_}
 use mathlib.Core.List.{List, [], _∷_}
 use lib.Dec.{leb}
 use lib.ListN.{take}
 use Rattle.refusals.specs.declared.Refusal.the-variants.{BadComponent, BadCount}
 use Rattle.refusals.specs.declared.Check.{Check}
 use Rattle.refusals.specs.declared.Check.the-variants.{Passed, Refused}
-use Rattle.refusals.specs.Checks.{unless, firstOf}
+use Rattle.refusals.specs.Cases.{Case, dueUnless, firstFrom, dueAtFirst, checkOf}
 use Rattle.weights.specs.declared.Component.{Component}
 use Rattle.weights.specs.declared.Component.the-variants.{Dist, Width, Class, Gain}
 use Rattle.weights.specs.declared.Language.{Language}
@@ -17,6 +17,7 @@ use Rattle.weights.specs.declared.Checked.{Checked}
 use Rattle.weights.specs.declared.Checked.the-variants.{Sound, Unsound}
 use Rattle.weights.specs.declared.Places.{Places}
 use Rattle.weights.specs.Sizes.{places}
+use Rattle.weights.specs.Weights.{SoundLimit}
 
 -- ---- a language in calls
 
@@ -24,13 +25,13 @@ use Rattle.weights.specs.Sizes.{places}
 abbrev pub componentsOf : Language → List Component
 componentsOf l = take (l .count) (l .first ∷ l .second ∷ l .third ∷ l .fourth ∷ [])
 
--- refusal 5: the count is 1 to 4
-abbrev pub countCheck : Language → Check
-countCheck l = unless (leb 1 (l .count) && leb (l .count) places) (BadCount 0 0)
-
--- .. in words
+-- the count is 1 to 4
 abbrev pub CountInRange : Language → Type 0
 CountInRange l = (1 ≤ l .count) × (l .count ≤ places)
+
+-- refusal 5: the count is not 1 to 4
+abbrev pub countCase : Language → Case
+countCase l = dueUnless (leb 1 (l .count) && leb (l .count) places) (CountInRange l) (BadCount 0) 0
 
 -- width has a limit from 1: a test
 abbrev pub soundLimit : Component → Bool
@@ -39,20 +40,17 @@ soundLimit (Width w) = leb 1 w
 soundLimit (Class c) = true
 soundLimit Gain = true
 
--- refusal 4: the first component, counted from i, with a width limit 0
+-- refusal 4: of the components that count, the first with a width limit 0
+abbrev pub limitCase : Language → Case
+limitCase l = dueAtFirst soundLimit SoundLimit (BadComponent 0) (componentsOf l)
+
+-- refusals 5 and 4, in this order
+abbrev pub languageCases : Language → List Case
+languageCases l = countCase l ∷ limitCase l ∷ []
+
+-- 4's check from a component on, counted from i
 abbrev pub limitsFrom : ℕ → List Component → Check
-limitsFrom i [] = Passed
-limitsFrom i (c ∷ cs) = cond (soundLimit c) (limitsFrom (suc i) cs) (Refused (BadComponent 0 i))
-
--- refusal 4 of a language: of the components that count, the first with a width limit 0
-abbrev pub limitCheck : Language → Check
-limitCheck l = limitsFrom 0 (componentsOf l)
-
--- item k of the list, counted from 0, is the first that is not so
-abbrev pub FirstNot : {X : Type 0} → (X → Type 0) → ℕ → List X → Type 0
-FirstNot So k [] = ⊥
-FirstNot So zero (x ∷ xs) = So x → ⊥
-FirstNot So (suc k) (x ∷ xs) = So x × FirstNot So k xs
+limitsFrom i cs = firstFrom soundLimit (BadComponent 0) i cs
 
 -- ---- the places that code works on
 
@@ -82,7 +80,7 @@ SmallLimits n (c ∷ cs) = SmallLimit n c × SmallLimits n cs
 
 -- refusals 5 and 4, in this order
 abbrev pub languageCheck : Language → Check
-languageCheck l = firstOf (countCheck l ∷ limitCheck l ∷ [])
+languageCheck l = checkOf (languageCases l)
 
 -- the language passes, with its places, or is refused
 abbrev pub CheckSays : Language → Checked → Type 0

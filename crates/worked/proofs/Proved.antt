@@ -37,7 +37,7 @@ use Rattle.files.specs.PrintedFile.{printedFile, printedHead}
 use Rattle.histories.specs.History.{HistoryBegun, afterCalls}
 use Rattle.histories.specs.Examples.{written, distance, distanceLanguage, depotArcs, depotRoutes}
 use Rattle.histories.proofs.Worked.{P9}
-use Rattle.worked.specs.Together.{arcsRead, mappingRead, Same, printedMatrix, sixteenArcs, oneStep, ProvedTogether}
+use Rattle.worked.specs.Together.{arcsRead, mappingRead, Same, printedMatrix, sixteen, oneStep, ProvedTogether}
 
 -- ---- matrices of three rows and columns
 
@@ -107,8 +107,8 @@ wide = Width 10 ∷ []
 depots-valid : ValidMatrix (language wide) 3 depotArcs
 depots-valid = nine (λ i j. (language wide) .Valid (depotArcs i j)) tt ((lit≤ tt, lit≤ tt), tt) tt ((lit≤ tt, lit≤ tt), tt) tt tt tt tt tt
 
-depots : Network
-depots = record { 𝓐 = language wide; 𝓛 = lawful wide (lit≤ tt, tt) refl refl; n = 3; A = depotArcs; arcs-valid = depots-valid }
+depot-network : Network
+depot-network = record { 𝓐 = language wide; 𝓛 = lawful wide (lit≤ tt, tt) refl refl; n = 3; A = depotArcs; arcs-valid = depots-valid }
 
 balances : solves wide 3 depotArcs depotRoutes ≡ true
 unfolding every routed bestOf pick
@@ -120,18 +120,18 @@ no-way = refl
 
 -- ---- P9
 
-begun : HistoryBegun distanceLanguage 16 sixteenArcs sixteenArcs
+begun : HistoryBegun sixteen (sixteen .arcs)
 unfolding firstMalformed
 begun = record { fresh-done = refl; arcs-long = refl; arcs-formed = refl; limits = (tt, tt) }
 
 steps : (oneStep 15 ≡ record { told = done; done = 1 }) × (oneStep 16 ≡ record { told = told (NoSuch 0 0); done = 0 })
 unfolding afterCalls
-steps = P9 distanceLanguage sixteenArcs sixteenArcs begun
+steps = P9 distanceLanguage (sixteen .arcs) (sixteen .arcs) begun
 
 -- ---- together
 
 pub proved-together : ProvedTogether
-unfolding printed one depots
+unfolding printed one depot-network
 proved-together = record {
   P1 = (weights.P1 .0, weights.P1 .1, λ c. let b = weights.P1 .2 in b .5 (c (route (0 ∷ 1 ∷ [])) (route (0 ∷ 9 ∷ [])) (route (0 ∷ 1 ∷ [])) (b .0) (b .1) (b .2) (b .3) (b .4)));
   P2 = weights.P2;
@@ -140,6 +140,6 @@ proved-together = record {
   P5 = (reads .0, swept, λ i j hi hj. subst (Best (language distance) 3 arcs i j) (computed i j hi hj) (best-is printed i j hi));
   P6 = (reads .1, refl, hot);
   P7 = subst (Best (language distance) 1 alone 0 0) fresh-is-best (best-is one 0 0 (omega arith));
-  P8 = (solves-exactly wide 3 depotArcs depotRoutes .0 balances, subst (Best (language wide) 3 depotArcs 0 2) no-way (best-is depots 0 2 (omega arith)));
+  P8 = (solves-exactly wide 3 depotArcs depotRoutes .0 balances, subst (Best (language wide) 3 depotArcs 0 2) no-way (best-is depot-network 0 2 (omega arith)));
   P9 = steps;
 }

@@ -19,7 +19,7 @@ use Rattle.modes.specs.declared.Mode.the-variants.{Hot}
 use Rattle.modes.specs.declared.Chosen.the-variants.{Fits}
 use Rattle.modes.specs.Entries.{Entry, mapped, modeOf, modeFor}
 use Rattle.tables.specs.Tables.{tableIn}
-use Rattle.routes.specs.Calls.{matrixOf, freshLeft, stepsRow, StepsRow}
+use Rattle.routes.specs.Calls.{freshLeft, stepsRow, StepsRow}
 use Rattle.histories.specs.Examples.{written, distance, distanceLanguage, depotArcs, depotRoutes}
 use Rattle.fields.specs.declared.Head.{Head}
 use Rattle.fields.specs.declared.HeadRead.the-variants.{Sound}
@@ -29,12 +29,14 @@ use Rattle.records.specs.Records.{listEnd}
 use Rattle.files.specs.File.{fileRead}
 use Rattle.contents.specs.Contents.{listedTable}
 use Rattle.files.specs.PrintedFile.{printedFile, printedHead}
+use Rattle.matrices.specs.Buffers.{matrixIn}
+use Rattle.guards.specs.OnNetwork.{OnNetwork, onNetwork}
 
 -- ---- what a file lists
 
 -- the arcs that a file lists, where its header ends at next
 abbrev pub arcsRead : List ℕ → ℕ → Head → Matrix
-arcsRead s next h = matrixOf (h .language) (h .n) (listedTable s h Arcs (next + 2) (twoAt s next))
+arcsRead s next h = matrixIn (length (componentsOf (h .language))) (h .n) (listedTable s h Arcs (next + 2) (twoAt s next))
 
 -- the mapping that it lists
 abbrev pub mappingRead : List ℕ → ℕ → Head → ℕ → ℕ → Entry
@@ -58,12 +60,12 @@ printedMatrix =
 -- ---- sixteen nodes without an arc, dist alone
 
 -- no arcs between sixteen nodes
-abbrev pub sixteenArcs : List ℕ
-sixteenArcs = replicate (16 * (16 * weightWords)) ones
+abbrev pub sixteen : OnNetwork
+sixteen = onNetwork distanceLanguage 16 (replicate (16 * (16 * weightWords)) ones)
 
 -- a step call with one step, on the fresh matrix
 abbrev pub oneStep : ℕ → StepsRow
-oneStep x = stepsRow distanceLanguage 16 sixteenArcs (freshLeft distanceLanguage 16 sixteenArcs) (x ∷ [])
+oneStep x = stepsRow sixteen (freshLeft distanceLanguage 16 (sixteen .arcs)) (x ∷ [])
 
 -- ---- the list
 

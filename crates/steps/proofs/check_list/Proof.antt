@@ -5,14 +5,14 @@ use native.Mathlib.Omega.{arith}
 use lib.ListN.{length, drop}
 use borrow.Author.Tests.{not-true, not-false}
 use Rattle.refusals.specs.Checks.{firstOf}
-use Rattle.guards.specs.Checks.{manyCheck, listCheck, stepsFrom}
+use Rattle.guards.specs.Checks.{manyCase, listCase, stepsFrom}
 use Rattle.routes.proofs.Lists.{too-many, list-start, list-bad, list-more, list-end}
 use borrow.Author.Needs.{needs}
 use Rattle.steps.proofs.check_list.Statement.{statement}
 use Rattle.steps.proofs.check_list.Tie as tie
 
 abbrev Inv-loop : tie.InvT-loop
-Inv-loop n list k₀ k = (k ≤ length list) × (firstOf (manyCheck list ∷ listCheck n list ∷ []) ≡ stepsFrom n k (drop k list))
+Inv-loop n list k₀ k = (k ≤ length list) × (firstOf (manyCase list .check ∷ listCase n list .check ∷ []) ≡ stepsFrom n k (drop k list))
 
 abbrev μ-loop : tie.MeasureT-loop
 μ-loop n list k₀ k = length list - k

@@ -1,3 +1,4 @@
+use Rattle.guards.specs.OnNetwork.{onNetwork}
 use native.Mathlib.Omega.{arith}
 use denote.Ref.{now}
 use Rattle.printing.proofs.Whole.{blank-square, blank-sized, worked-text}
@@ -36,7 +37,7 @@ returns c =
     let d = c .before .before .before .before .before .before .before .before .before .before .before .before .before .before .before .before .before .before .before .before in
     let routes = c .before .before .before .before .before .before .before .before .before .before .before .before .before .work-routes .ensures in
     let table = c .before .before .before .before .before .before .before .before .work-table .ensures in
-    worked-text (d .args .l) (d .args .n) (d .args .m) (d .args .mode) (now (d .args .a)) (now (d .args .mapping)) (now (d .args .r)) _ (now (d .args .f)) _ _ _ (d .pre .4) (d .pre .5)
+    worked-text (onNetwork (d .args .l) (d .args .n) (now (d .args .a))) (d .args .m) (d .args .mode) (now (d .args .mapping)) (now (d .args .r)) _ (now (d .args .f)) _ _ _ (d .pre .4) (d .pre .5)
     (routes .0) (routes .1) (table .0) (table .1) (c .before .before .put-text .ensures)
 
 pub put-worked-spec : {M : Type 1} → statement M

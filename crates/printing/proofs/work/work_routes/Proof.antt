@@ -1,3 +1,4 @@
+use Rattle.guards.specs.OnNetwork.{onNetwork}
 use mathlib.Core.Path.{refl}
 use native.Mathlib.Omega.{arith}
 use denote.Ref.{now}
@@ -31,7 +32,7 @@ returns : tie.Need-returns
 returns c =
     let d = c .before .before .before .before .before .before .before .before .before .before .before .before .before in
     let fresh = c .before .before .before .before .before .before .fresh .ensures in
-    fresh-refused (d .args .l) (d .args .n) (now (d .args .a)) (now (d .args .r)) _ _ (c .before .before .answer .given .0 .0) (rw (c .before .before .answer .given .1) at (fresh .0)) (fresh .1) (c .tell .ensures)
+    fresh-refused (onNetwork (d .args .l) (d .args .n) (now (d .args .a))) (now (d .args .r)) _ _ (c .before .before .answer .given .0 .0) (rw (c .before .before .answer .given .1) at (fresh .0)) (fresh .1) (c .tell .ensures)
 
 enum-told : tie.Need-enum-told
 enum-told c = search needs
@@ -65,7 +66,7 @@ returns-2 c =
     let d = c .before .before .before .before .before .before .before .before .before .before .before .before .before .before .before .before .before .before in
     let fresh = c .before .before .before .before .before .before .before .before .before .before .before .fresh .ensures in
     let steps = c .before .before .before .before .steps .ensures in
-    steps-tried (d .args .l) (d .args .n) (now (d .args .a)) (now (d .args .r)) _ _ _ _ _ (rw (c .before .before .before .before .before .before .before .enum-told .given .1) at (fresh .0)) (fresh .1)
+    steps-tried (onNetwork (d .args .l) (d .args .n) (now (d .args .a))) (now (d .args .r)) _ _ _ _ _ (rw (c .before .before .before .before .before .before .before .enum-told .given .1) at (fresh .0)) (fresh .1)
     (sweeps-lent (d .args .n) (c .before .before .before .before .before .before .before .before .before .before .before .before .before .before .put-sweeps .ensures) (sweeps-few (d .args .n) (d .pre .1))) (rw (c .enum-told2 .given .1) at (steps .0)) (steps .1) refl
 
 enum-known-ran : tie.Need-enum-known-ran
@@ -82,7 +83,7 @@ returns-3 c =
     let d = c .before .before .before .before .before .before .before .before .before .before .before .before .before .before .before .before .before .before .before .before in
     let fresh = c .before .before .before .before .before .before .before .before .before .before .before .before .before .fresh .ensures in
     let steps = c .before .before .before .before .before .before .steps .ensures in
-    steps-tried (d .args .l) (d .args .n) (now (d .args .a)) (now (d .args .r)) _ _ _ _ _ (rw (c .before .before .before .before .before .before .before .before .before .enum-told .given .1) at (fresh .0)) (fresh .1)
+    steps-tried (onNetwork (d .args .l) (d .args .n) (now (d .args .a))) (now (d .args .r)) _ _ _ _ _ (rw (c .before .before .before .before .before .before .before .before .before .enum-told .given .1) at (fresh .0)) (fresh .1)
     (sweeps-lent (d .args .n) (c .before .before .before .before .before .before .before .before .before .before .before .before .before .before .before .before .put-sweeps .ensures) (sweeps-few (d .args .n) (d .pre .1))) (rw (c .before .before .ran .given .1) at (steps .0)) (steps .1) (c .tell2 .ensures)
 
 pub work-routes-spec : {M : Type 1} → statement M

@@ -1,3 +1,5 @@
+use Rattle.guards.specs.OnNetwork.{onNetwork}
+use Rattle.forwarding.specs.Calls.{onTables}
 use mathlib.Core.Path.{refl}
 use denote.Ref.{now}
 use Rattle.printing.proofs.Whole.{table-tried}
@@ -27,7 +29,7 @@ returns : tie.Need-returns
 returns c =
     let d = c .before .before .before .before .before .before .before .before .before .before .before .before in
     let forward = c .before .before .before .before .before .before .forward .ensures in
-    table-tried (d .args .l) (d .args .n) (d .args .m) (d .args .mode) (now (d .args .a)) (now (d .args .r)) (now (d .args .mapping)) (now (d .args .f)) _ _ _ (rw (c .before .before .answer .given .1) at (forward .0)) (forward .1) (c .tell .ensures)
+    table-tried (onTables (onNetwork (d .args .l) (d .args .n) (now (d .args .a))) (d .args .m) (d .args .mode) (now (d .args .r)) (now (d .args .mapping))) (now (d .args .f)) _ _ _ (rw (c .before .before .answer .given .1) at (forward .0)) (forward .1) (c .tell .ensures)
 
 enum-told : tie.Need-enum-told
 enum-told c = search needs
@@ -39,7 +41,7 @@ returns-2 : tie.Need-returns-2
 returns-2 c =
     let d = c .before .before .before .before .before .before .before .before .before .before in
     let forward = c .before .before .before .before .forward .ensures in
-    table-tried (d .args .l) (d .args .n) (d .args .m) (d .args .mode) (now (d .args .a)) (now (d .args .r)) (now (d .args .mapping)) (now (d .args .f)) _ _ _ (rw (c .enum-told .given .1) at (forward .0)) (forward .1) refl
+    table-tried (onTables (onNetwork (d .args .l) (d .args .n) (now (d .args .a))) (d .args .m) (d .args .mode) (now (d .args .r)) (now (d .args .mapping))) (now (d .args .f)) _ _ _ (rw (c .enum-told .given .1) at (forward .0)) (forward .1) refl
 
 pub work-table-spec : {M : Type 1} → statement M
 work-table-spec =

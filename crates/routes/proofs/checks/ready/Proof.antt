@@ -1,122 +1,75 @@
-use mathlib.Core.Path.{sym, _∙_}
-use Rattle.routes.proofs.Order.{squares, by-nodes, by-language, by-lengths, by-laws, by-entries, all-pass}
-use Rattle.guards.proofs.Singles.{nodes-passed}
+use Rattle.guards.specs.OnNetwork.{onNetwork}
+use Rattle.routes.proofs.Order.{matrices-stop, squares, entries-then, matrices-given}
 use borrow.Author.Needs.{needs}
 use Rattle.routes.proofs.checks.ready.Statement.{statement}
 use Rattle.routes.proofs.checks.ready.Tie as tie
+use Rattle.guards.proofs.check_length.Reads as check-length-reads
+use Rattle.guards.proofs.check_nodes.Reads as check-nodes-reads
+use Rattle.guards.proofs.entrance.enter.Reads as enter-reads
+use Rattle.matrices.proofs.checks.first_malformed.Reads as first-malformed-reads
+use Rattle.refusals.proofs.checks.or_else.Reads as or-else-reads
+
+check-length-requires : tie.Need-check-length-requires
+check-length-requires c κs = search needs
+
+check-length-requires-2 : tie.Need-check-length-requires-2
+check-length-requires-2 c κs = search needs
+
+or-else-requires : tie.Need-or-else-requires
+or-else-requires c κs = search needs
 
 check-nodes-requires : tie.Need-check-nodes-requires
 check-nodes-requires c κs = search needs
 
+enter-requires : tie.Need-enter-requires
+enter-requires c κs = search needs
+
 enum-known-x : tie.Need-enum-known-x
 enum-known-x c = search needs
-
-enum-told : tie.Need-enum-told
-enum-told c = search needs
-
-check-requires : tie.Need-check-requires
-check-requires c κs = search needs
-
-enum-known-x-2 : tie.Need-enum-known-x-2
-enum-known-x-2 c = search needs
 
 enum-known-p : tie.Need-enum-known-p
 enum-known-p c = search needs
 
-check-lengths-requires : tie.Need-check-lengths-requires
-check-lengths-requires c κs = nodes-passed (c .before .before .before .before .before .before .before .before .before .args .n) (sym (c .before .before .before .before .before .before .check-nodes .ensures) ∙ c .before .before .before .before .enum-told .given .1) .1
+first-malformed-requires : tie.Need-first-malformed-requires
+first-malformed-requires c κs = let s = c .before .before .before .before .before .before .before .before .before .before .args in squares (onNetwork (s .l) (s .n) (s .a .now)) (s .r .now) (c .before .before .before .before .check-nodes .ensures) (c .before .before .before .before .before .before .before .check-length .ensures) (c .before .before .before .before .before .before .check-length2 .ensures) (c .before .before .before .before .before .or-else .ensures) (c .before .p .given .0 .0) (rw (c .before .p .given .1) at (c .before .before .before .enter .ensures)) .0
 
-enum-known-x-3 : tie.Need-enum-known-x-3
-enum-known-x-3 c = search needs
+first-malformed-requires-2 : tie.Need-first-malformed-requires-2
+first-malformed-requires-2 c κs = let s = c .before .before .before .before .before .before .before .before .before .before .before .args in squares (onNetwork (s .l) (s .n) (s .a .now)) (s .r .now) (c .before .before .before .before .before .check-nodes .ensures) (c .before .before .before .before .before .before .before .before .check-length .ensures) (c .before .before .before .before .before .before .before .check-length2 .ensures) (c .before .before .before .before .before .before .or-else .ensures) (c .before .before .p .given .0 .0) (rw (c .before .before .p .given .1) at (c .before .before .before .before .enter .ensures)) .1
 
-enum-told-2 : tie.Need-enum-told-2
-enum-told-2 c = search needs
+or-else-requires-2 : tie.Need-or-else-requires-2
+or-else-requires-2 c κs = search needs
 
-check-laws-requires : tie.Need-check-laws-requires
-check-laws-requires c κs = search needs
+enum-known-x-2 : tie.Need-enum-known-x-2
+enum-known-x-2 c = search needs
 
-enum-known-x-4 : tie.Need-enum-known-x-4
-enum-known-x-4 c = search needs
-
-enum-told-3 : tie.Need-enum-told-3
-enum-told-3 c = search needs
-
-check-entries-requires : tie.Need-check-entries-requires
-check-entries-requires c κs =
-    let args = c .before .before .before .before .before .before .before .before .before .before .before .before .before .before .before .args in
-    let nodes = sym (c .before .before .before .before .before .before .before .before .before .before .before .before .check-nodes .ensures) ∙ c .before .before .before .before .before .before .before .before .before .before .enum-told .given .1 in
-    let p = c .before .before .before .before .before .before .before .p .given in
-    let says = rw (p .1) at (c .before .before .before .before .before .before .before .before .before .check .ensures) in
-    squares (args .l) (args .n) (args .a .now) (args .r .now) nodes (p .0 .0) (says .0) (says .1) (sym (c .before .before .before .before .before .check-lengths .ensures) ∙ c .before .before .before .enum-told2 .given .1)
-
-enum-known-x-5 : tie.Need-enum-known-x-5
-enum-known-x-5 c = search needs
-
-enum-told-4 : tie.Need-enum-told-4
-enum-told-4 c = search needs
+enum-told : tie.Need-enum-told
+enum-told c = search needs
 
 returns : tie.Need-returns
-returns c = let args = c .before .before .before .before .before .before .args in by-nodes (args .l) (args .n) (args .a .now) (args .r .now) (sym (c .before .before .before .check-nodes .ensures) ∙ c .before .x .given .1)
+returns c = let s = c .before .before .before .before .before .before .before .before .before .before .args in matrices-stop (onNetwork (s .l) (s .n) (s .a .now)) (s .r .now) (c .before .before .before .before .check-nodes .ensures) (c .before .before .before .before .before .before .before .check-length .ensures) (c .before .before .before .before .before .before .check-length2 .ensures) (c .before .before .before .before .before .or-else .ensures) (rw (c .before .x .given .1) at (c .before .before .before .enter .ensures))
 
 returns-2 : tie.Need-returns-2
-returns-2 c = let args = c .before .before .before .before .before .before .before .before .before .args in by-language (args .l) (args .n) (args .a .now) (args .r .now) (sym (c .before .before .before .before .before .before .check-nodes .ensures) ∙ c .before .before .before .before .enum-told .given .1) (rw (c .before .x2 .given .1) at (c .before .before .before .check .ensures))
+returns-2 c = let s = c .before .before .before .before .before .before .before .before .before .before .before .before .before .before .before .before .args in entries-then (onNetwork (s .l) (s .n) (s .a .now)) (s .r .now) (c .before .before .before .before .before .before .before .before .before .before .check-nodes .ensures) (c .before .before .before .before .before .before .before .before .before .before .before .before .before .check-length .ensures) (c .before .before .before .before .before .before .before .before .before .before .before .before .check-length2 .ensures) (c .before .before .before .before .before .before .before .before .before .before .before .or-else .ensures) (c .before .before .before .before .before .before .before .p .given .0 .0) (rw (c .before .before .before .before .before .before .before .p .given .1) at (c .before .before .before .before .before .before .before .before .before .enter .ensures)) (c .before .before .before .before .before .first-malformed .ensures) (c .before .before .before .before .first-malformed2 .ensures) (c .before .before .before .or-else2 .ensures) (c .before .x2 .given .1)
 
 returns-3 : tie.Need-returns-3
-returns-3 c =
-    let args = c .before .before .before .before .before .before .before .before .before .before .before .before .before .args in
-    let nodes = sym (c .before .before .before .before .before .before .before .before .before .before .check-nodes .ensures) ∙ c .before .before .before .before .before .before .before .before .enum-told .given .1 in
-    let p = c .before .before .before .before .before .p .given in
-    let says = rw (p .1) at (c .before .before .before .before .before .before .before .check .ensures) in
-    by-lengths (args .l) (args .n) (args .a .now) (args .r .now) nodes (p .0 .0) (says .0) (says .1) (sym (c .before .before .before .check-lengths .ensures) ∙ c .before .x3 .given .1)
-
-returns-4 : tie.Need-returns-4
-returns-4 c =
-    let args = c .before .before .before .before .before .before .before .before .before .before .before .before .before .before .before .before .args in
-    let nodes = sym (c .before .before .before .before .before .before .before .before .before .before .before .before .before .check-nodes .ensures) ∙ c .before .before .before .before .before .before .before .before .before .before .before .enum-told .given .1 in
-    let p = c .before .before .before .before .before .before .before .before .p .given in
-    let says = rw (p .1) at (c .before .before .before .before .before .before .before .before .before .before .check .ensures) in
-    by-laws (args .l) (args .n) (args .a .now) (args .r .now) nodes (p .0 .0) (says .0) (says .1) (sym (c .before .before .before .before .before .before .check-lengths .ensures) ∙ c .before .before .before .before .enum-told2 .given .1) (sym (c .before .before .before .check-laws .ensures) ∙ c .before .x4 .given .1)
-
-returns-5 : tie.Need-returns-5
-returns-5 c =
-    let args = c .before .before .before .before .before .before .before .before .before .before .before .before .before .before .before .before .before .before .before .args in
-    let nodes = sym (c .before .before .before .before .before .before .before .before .before .before .before .before .before .before .before .before .check-nodes .ensures) ∙ c .before .before .before .before .before .before .before .before .before .before .before .before .before .before .enum-told .given .1 in
-    let p = c .before .before .before .before .before .before .before .before .before .before .before .p .given in
-    let says = rw (p .1) at (c .before .before .before .before .before .before .before .before .before .before .before .before .before .check .ensures) in
-    by-entries (args .l) (args .n) (args .a .now) (args .r .now) nodes (p .0 .0) (says .0) (says .1) (sym (c .before .before .before .before .before .before .before .before .before .check-lengths .ensures) ∙ c .before .before .before .before .before .before .before .enum-told2 .given .1) (sym (c .before .before .before .before .before .before .check-laws .ensures) ∙ c .before .before .before .before .enum-told3 .given .1)
-    (sym (c .before .before .before .check-entries .ensures) ∙ c .before .x5 .given .1)
-
-returns-6 : tie.Need-returns-6
-returns-6 c =
-    let args = c .before .before .before .before .before .before .before .before .before .before .before .before .before .before .before .before .before .before .args in
-    let nodes = sym (c .before .before .before .before .before .before .before .before .before .before .before .before .before .before .before .check-nodes .ensures) ∙ c .before .before .before .before .before .before .before .before .before .before .before .before .before .enum-told .given .1 in
-    let p = c .before .before .before .before .before .before .before .before .before .before .p .given in
-    let says = rw (p .1) at (c .before .before .before .before .before .before .before .before .before .before .before .before .check .ensures) in
-    all-pass (args .l) (args .n) (args .a .now) (args .r .now) nodes (p .0 .0) (says .0) (says .1) (sym (c .before .before .before .before .before .before .before .before .check-lengths .ensures) ∙ c .before .before .before .before .before .before .enum-told2 .given .1) (sym (c .before .before .before .before .before .check-laws .ensures) ∙ c .before .before .before .enum-told3 .given .1) (says .2)
-    (sym (c .before .before .check-entries .ensures) ∙ c .enum-told4 .given .1)
+returns-3 c = let s = c .before .before .before .before .before .before .before .before .before .before .before .before .before .before .before .args in matrices-given (onNetwork (s .l) (s .n) (s .a .now)) (s .r .now) (c .before .before .before .before .before .before .before .before .before .check-nodes .ensures) (c .before .before .before .before .before .before .before .before .before .before .before .before .check-length .ensures) (c .before .before .before .before .before .before .before .before .before .before .before .check-length2 .ensures) (c .before .before .before .before .before .before .before .before .before .before .or-else .ensures) (c .before .before .before .before .before .before .p .given .0 .0) (rw (c .before .before .before .before .before .before .p .given .1) at (c .before .before .before .before .before .before .before .before .enter .ensures)) (c .before .before .before .before .first-malformed .ensures) (c .before .before .before .first-malformed2 .ensures) (c .before .before .or-else2 .ensures) (c .enum-told .given .1)
 
 pub ready-spec : {M : Type 1} → statement M
 ready-spec =
     tie.close
     (tie.spec
+    check-length-requires
+    check-length-requires-2
+    or-else-requires
     check-nodes-requires
+    enter-requires
     enum-known-x
-    enum-told
-    check-requires
-    enum-known-x-2
     enum-known-p
-    check-lengths-requires
-    enum-known-x-3
-    enum-told-2
-    check-laws-requires
-    enum-known-x-4
-    enum-told-3
-    check-entries-requires
-    enum-known-x-5
-    enum-told-4
+    first-malformed-requires
+    first-malformed-requires-2
+    or-else-requires-2
+    enum-known-x-2
+    enum-told
     returns
     returns-2
-    returns-3
-    returns-4
-    returns-5
-    returns-6)
+    returns-3)

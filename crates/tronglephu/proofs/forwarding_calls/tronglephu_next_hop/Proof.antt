@@ -1,3 +1,4 @@
+use Rattle.guards.specs.OnNetwork.{onNetwork}
 use native.Mathlib.Omega.{arith}
 use mathlib.Core.Path.{sym, ap, _∙_}
 use Rattle.hops.specs.Calls.{hopSaid}
@@ -17,7 +18,7 @@ enum-known-node : tie.Need-enum-known-node
 enum-known-node c = search needs
 
 cast-done : tie.Need-cast-done
-cast-done c = let a = c .before .before .before .before .before .before .before .before .before .args in omega (arith, hop-small (c .before .before .before .before .before .language .result) (a .n) (a .a .now) (a .r .now) (a .i) (a .j) (c .before .before .node .given .0 .0) (ap hopSaid (sym (c .before .before .node .given .1)) ∙ c .before .before .before .before .next-hop .ensures))
+cast-done c = let a = c .before .before .before .before .before .before .before .before .before .args in omega (arith, hop-small (onNetwork (c .before .before .before .before .before .language .result) (a .n) (a .a .now)) (a .r .now) (a .i) (a .j) (c .before .before .node .given .0 .0) (ap hopSaid (sym (c .before .before .node .given .1)) ∙ c .before .before .before .before .next-hop .ensures))
 
 done-requires : tie.Need-done-requires
 done-requires c κs = search needs

@@ -1,5 +1,5 @@
 use mathlib.Core.Path.{refl, sym}
-use Rattle.routes.proofs.Order.{stops, goes-on}
+use Rattle.refusals.proofs.First.{stops, goes-on}
 use Rattle.door.specs.Problems.{problemWords}
 use Rattle.tronglephu.proofs.Answers.{no-room, room}
 use Rattle.tronglephu.proofs.language_calls.check_room.Statement.{statement}
