@@ -33,10 +33,12 @@ mem_cases a (b ∷ s) t (inr m) = go (mem_cases a s t m)
     go (inr h) = inr h
 
 mem_map : {A B : Type 0} (f : A → B) (a : A) (l : List A) → Mem a l → Mem (f a) (map f l)
+mem_map {A = A} {B = B} f a [] m = elim m [ ]
 mem_map f a (b ∷ l) (inl e) = inl (ap f e)
 mem_map f a (b ∷ l) (inr m) = inr (mem_map f a l m)
 
 mem_unmap : {A B : Type 0} (f : A → B) (b : B) (l : List A) → Mem b (map f l) → (a : A) × Mem a l × (b ≡ f a)
+mem_unmap {A = A} {B = B} f b [] m = elim m [ ]
 mem_unmap f b (c ∷ l) (inl e) = (c, inl refl, e)
 mem_unmap f b (c ∷ l) (inr m) = let r = mem_unmap f b l m in (r.0, inr r.1, r.2)
 

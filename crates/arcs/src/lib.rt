@@ -1,5 +1,7 @@
 // One arc taken into a whole row. In a language of one component only the first values are joined; in others a join that loses by
 // its first value is not finished.
+#![tactic(auto)]
+
 ghost use Rattle.std.specs.Prelude.{◌≡◌, true, ◌++◌, ℕ, ◌+◌, ◌*◌, ◌≤◌, ◌<◌, length, take, drop};
 ghost use Rattle.weights.specs.declared.Component.TheVariants.{Class};
 ghost use Rattle.weights.specs.Sizes.{places, weight_words, arc_sum, matrix_sum};

@@ -3,6 +3,8 @@
 // Request: call; language (count, then kind and limit of four places); n, m, mode, i, j; the length of each buffer; the buffers.
 // Response: number, which, place; the values of the answer; every buffer that the call may write. It is the single word
 // 4294967295 where a buffer is too long for this program. A request that does not add up ends the program.
+#![tactic(auto)]
+
 mod filed;
 mod hopping;
 mod lent;

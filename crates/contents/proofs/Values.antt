@@ -11,7 +11,7 @@ use lib.Seq.{sets}
 use Rattle.weights.specs.Sizes.{places}
 use Rattle.weights.specs.Weights.{route}
 use Rattle.weights.specs.Words.{words}
-use Rattle.bytes.specs.Bytes.{two_at}
+use Rattle.file_bytes.specs.Bytes.{two_at}
 use Rattle.contents.specs.Contents.{values_at}
 
 -- four words, 0 where there is no component

@@ -4,15 +4,15 @@ ghost use Rattle.std.proofs.lemmas.List.Edits.{sets};
 ghost use Rattle.weights.specs.Sizes.{places, ones};
 ghost use Rattle.weights.specs.Values.{weight_of};
 ghost use Rattle.weights.specs.Words.{words};
-ghost use Rattle.bytes.specs.Bytes.{two_at};
+ghost use Rattle.file_bytes.specs.Bytes.{two_at};
 ghost use Rattle.records.specs.Records.{ends_at, list_end, body_check};
 ghost use Rattle.contents.specs.Contents.{words_each, size_of, record_weight, outside_at, with_outside, record_words, listed_table, list_over};
 ghost use Rattle.fields.specs.Parts.{SmallHead};
-ghost use Rattle.bytes.specs.Offsets.{ByteOffset, RecordOffset};
+ghost use Rattle.file_bytes.specs.Offsets.{ByteOffset, RecordOffset};
 ghost use Rattle.records.specs.Parts.{InRange, Listed};
 ghost use Rattle.contents.specs.Parts.{place_of};
 
-use bytes::two;
+use file_bytes::two;
 use fields::Head;
 use records::checks::{ends_at, record_length};
 use records::lists::list_end;

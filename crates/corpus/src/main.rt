@@ -1,4 +1,6 @@
 // Prints, for each file that is named as an argument, its name on a line and then what `print` prints for it.
+#![tactic(auto)]
+
 fn print_named(i: usize) {
     let mut path = io::buffer();
     let size = os::arg(i, &mut path);

@@ -1,4 +1,6 @@
 // Numbers in decimal digits, as bytes.
+#![tactic(auto)]
+
 ghost use Rattle.std.specs.Prelude.{◌≡◌, ◌+◌, ◌≤◌, length};
 ghost use Rattle.std.proofs.lemmas.List.Edits.{sets};
 ghost use Rattle.decimals.specs.Digits.{decimal};

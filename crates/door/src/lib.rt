@@ -1,4 +1,6 @@
 // What crosses the door to C, in numbers: a language in nine, an answer in four, a law report and a problem in words.
+#![tactic(auto)]
+
 pub mod languages;
 pub mod problems;
 pub mod replies;
@@ -23,7 +25,7 @@ pub const STANDING: u32 = 5;
 
 // An answer: number, which and place, 0 0 0 being done, and the one number that the call gives.
 #[repr(C)]
-#[derive(Drop)]
+#[derive(Clone, Copy)]
 pub struct Reply {
     pub number: u32,
     pub which: u32,

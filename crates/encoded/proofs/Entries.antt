@@ -16,7 +16,7 @@ use Rattle.weights.specs.Words.{words}
 use Rattle.fields.specs.declared.Head.{Head}
 use Rattle.records.specs.declared.Listing.{Listing}
 use Rattle.records.specs.declared.Listing.TheVariants.{Arcs, Attachments}
-use Rattle.bytes.specs.Bytes.{two_at}
+use Rattle.file_bytes.specs.Bytes.{two_at}
 use Rattle.records.specs.Records.{record_length, length_of, ends_at, ends_check, values_check, record_check, records_check, record_list_check, list_end}
 use Rattle.contents.specs.Contents.{columns, values_at, outside_at, with_outside, record_words, row_of_ends, column_of_ends, is_at, listed_words}
 use Rattle.encoded.specs.Encode.{ListEntry, SoundValues, SoundOutside, SoundEntry, SoundEntries, bytes2, value_bytes, outside_bytes, entry_bytes, entries_bytes, list_bytes, put}

@@ -23,7 +23,7 @@ use Rattle.fields.specs.declared.Head.{Head}
 use Rattle.fields.specs.declared.HeadRead.{HeadRead}
 use Rattle.fields.specs.declared.HeadRead.TheVariants.{Sound, Refused as Faulty}
 use Rattle.records.specs.declared.Listing.TheVariants.{Arcs, Attachments}
-use Rattle.bytes.specs.Bytes.{two_at, four_at}
+use Rattle.file_bytes.specs.Bytes.{two_at, four_at}
 use Rattle.fields.specs.Nested.{nothing, language_at}
 use Rattle.fields.specs.Header.{field_check, mode_field_check, fields_check, head_from, head_read}
 use Rattle.records.specs.Records.{record_list_check, list_end, body_check}

@@ -19,7 +19,7 @@ use Rattle.weights.specs.Words.{in_range}
 use Rattle.fields.specs.declared.Head.{Head}
 use Rattle.records.specs.declared.Listing.{Listing}
 use Rattle.records.specs.declared.Listing.TheVariants.{Arcs, Attachments}
-use Rattle.bytes.specs.Bytes.{two_at}
+use Rattle.file_bytes.specs.Bytes.{two_at}
 use Rattle.records.specs.Records.{record_length, length_of, ends_at, ends_check, values_check, record_check, records_check, record_list_check, list_end}
 use Rattle.contents.specs.Contents.{columns, values_at, outside_at}
 use Rattle.records.specs.Parts.{InRange}

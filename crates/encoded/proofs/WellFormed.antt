@@ -30,7 +30,7 @@ use Rattle.fields.specs.declared.HeadRead.TheVariants.{Sound, Refused as Faulty}
 use Rattle.records.specs.declared.Listing.{Listing}
 use Rattle.records.specs.declared.Listing.TheVariants.{Arcs, Attachments}
 use Rattle.files.specs.declared.ReadAnswer.TheVariants.{Done}
-use Rattle.bytes.specs.Bytes.{two_at}
+use Rattle.file_bytes.specs.Bytes.{two_at}
 use Rattle.records.specs.Records.{length_of, ends_at, ends_check, values_check, record_check, records_check, record_list_check, list_end, body_check}
 use Rattle.files.specs.File.{file_read}
 use Rattle.contents.specs.Contents.{words_each, columns, size_of, values_at, record_weight, outside_at, record_words, is_at, listed_words, listed_table, list_over}

@@ -19,7 +19,7 @@ use Rattle.records.specs.declared.Listing.{Listing}
 use Rattle.records.specs.declared.Listing.TheVariants.{Arcs, Attachments}
 use Rattle.files.specs.declared.ReadAnswer.{ReadAnswer}
 use Rattle.files.specs.declared.ReadAnswer.TheVariants.{Done}
-use Rattle.bytes.specs.Bytes.{two_at, four_at}
+use Rattle.file_bytes.specs.Bytes.{two_at, four_at}
 use Rattle.fields.specs.Nested.{nothing}
 use Rattle.fields.specs.Header.{field_check, mode_field_check, fields_check, head_read}
 use Rattle.records.specs.Records.{length_of, list_end, body_check}

@@ -6,7 +6,7 @@ use Rattle.weights.specs.Sizes.{weight_words, entry_words, ones}
 use Rattle.weights.specs.Words.{words}
 use Rattle.fields.specs.declared.HeadRead.TheVariants.{Sound}
 use Rattle.records.specs.declared.Listing.TheVariants.{Arcs, Attachments}
-use Rattle.bytes.specs.Bytes.{two_at}
+use Rattle.file_bytes.specs.Bytes.{two_at}
 use Rattle.fields.specs.Nested.{added, component_read, language_from}
 use Rattle.fields.specs.Header.{field_check, fields_check, head_read}
 use Rattle.records.specs.Records.{record_length, ends_check, values_check, record_check, records_check, record_list_check, list_end, body_check}

@@ -8,7 +8,7 @@ use Rattle.fields.specs.declared.Found.{Found}
 use Rattle.fields.specs.declared.Head.{Head}
 use Rattle.fields.specs.declared.HeadRead.TheVariants.{Sound}
 use Rattle.records.specs.declared.Listing.TheVariants.{Arcs, Attachments}
-use Rattle.bytes.specs.Bytes.{two_at}
+use Rattle.file_bytes.specs.Bytes.{two_at}
 use Rattle.fields.specs.Nested.{with_component, with_tag}
 use Rattle.records.specs.Records.{list_end}
 use Rattle.files.specs.File.{file_read}

@@ -21,7 +21,7 @@ pub const TO: usize = 14;
 const LENGTHS: usize = 15;
 
 // Where the first buffer starts, and where each of four ends.
-#[derive(Drop)]
+#[derive(Clone, Copy)]
 pub struct Parts {
     pub start: usize,
     pub first: usize,

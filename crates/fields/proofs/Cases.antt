@@ -17,7 +17,7 @@ use Rattle.refusals.specs.Cases.{Case, check_of, refusal_numbers}
 use Rattle.refusals.proofs.First.{or_passed, or_else_assoc}
 use Rattle.refusals.proofs.Tests.{both_exactly, either_exactly, implies_exactly, leb_exactly, eqb_exactly}
 use Rattle.refusals.proofs.Cases.{Exact, AllExact, unless_exact, no_more, ◌and◌, append_exact}
-use Rattle.bytes.specs.Bytes.{two_at}
+use Rattle.file_bytes.specs.Bytes.{two_at}
 use Rattle.fields.specs.Nested.{dist_tag, width_tag, class_tag, product_tag}
 use Rattle.fields.specs.Header.{field_check, fields_check}
 use Rattle.fields.specs.Cases.{byte_at, cut_case, version_field, nodes_field, destinations_field, mode_agrees, mode_field, header_cases, tag_case, product_case, HasLimit, has_limit, limit_cut_case, width_case, tag_cases, after_component, nested_cases}

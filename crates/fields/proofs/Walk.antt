@@ -15,7 +15,7 @@ use Rattle.weights.specs.Sizes.{product_tags}
 use Rattle.fields.specs.declared.Found.{Found}
 use Rattle.fields.specs.declared.LanguageRead.{LanguageRead}
 use Rattle.fields.specs.declared.LanguageRead.TheVariants.{Taken, Refused}
-use Rattle.bytes.specs.Bytes.{two_at}
+use Rattle.file_bytes.specs.Bytes.{two_at}
 use Rattle.fields.specs.Nested.{nothing, with_tag, dist_tag, width_tag, class_tag, gain_tag, product_tag, component_read, after, language_at}
 use Rattle.fields.specs.Parts.{Advances}
 use Rattle.fields.specs.Cases.{byte_at, tag_cases, after_component, nested_cases}

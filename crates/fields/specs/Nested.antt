@@ -9,7 +9,7 @@ use Rattle.weights.specs.Sizes.{product_tags}
 use Rattle.fields.specs.declared.Found.{Found}
 use Rattle.fields.specs.declared.LanguageRead.{LanguageRead}
 use Rattle.fields.specs.declared.LanguageRead.TheVariants.{Taken, Refused}
-use Rattle.bytes.specs.Bytes.{two_at}
+use Rattle.file_bytes.specs.Bytes.{two_at}
 
 -- ---- the tags
 

@@ -6,7 +6,7 @@ ghost use Rattle.fields.specs.Parts.{SmallHeadRead};
 
 use super::languages::language;
 use super::{Found, Head, HeadRead, LanguageRead};
-use bytes::byte;
+use file_bytes::byte;
 use refusals::checks::or_else;
 use refusals::{Check, Refusal};
 use weights::{Component, Language};

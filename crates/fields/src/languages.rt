@@ -3,10 +3,10 @@ ghost use Rattle.std.specs.Prelude.{◌≡◌, ◌<◌, ◌≤◌, length};
 ghost use Rattle.weights.specs.Sizes.{places, product_tags};
 ghost use Rattle.fields.specs.Nested.{language_of_places, added, with_component, with_tag, width_read, class_read, component_read, language_at};
 ghost use Rattle.fields.specs.Parts.{LanguageBegins, Advances};
-ghost use Rattle.bytes.specs.Offsets.{RecordOffset};
+ghost use Rattle.file_bytes.specs.Offsets.{RecordOffset};
 
 use super::{Found, LanguageRead};
-use bytes::limit;
+use file_bytes::limit;
 use refusals::Refusal;
 use weights::{Component, Language, PRODUCT_TAGS};
 

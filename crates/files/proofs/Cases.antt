@@ -14,7 +14,7 @@ use Rattle.refusals.specs.Cases.{check_of, refusal_numbers, ToldExactly, first_c
 use Rattle.refusals.proofs.Tests.{both_exactly, leb_exactly, eqb_exactly}
 use Rattle.refusals.proofs.Cases.{Exact, AllExact, unless_exact, no_more, ◌and◌, append_exact, check_in_turn, told_exactly}
 use Rattle.weights.specs.Sizes.{product_tags}
-use Rattle.bytes.specs.Bytes.{four_at}
+use Rattle.file_bytes.specs.Bytes.{four_at}
 use Rattle.fields.specs.declared.Head.{Head}
 use Rattle.fields.specs.declared.HeadRead.TheVariants.{Refused as Faulty}
 use Rattle.fields.specs.declared.LanguageRead.{LanguageRead}

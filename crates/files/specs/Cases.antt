@@ -5,7 +5,7 @@ use Rattle.std.specs.Prelude.{ℕ, ◌-◌, ◌≤◌, ◌≡◌, List, [], ◌�
 use Rattle.refusals.specs.declared.Refusal.TheVariants.{Bytes, Length}
 use Rattle.refusals.specs.Cases.{Case, due_unless}
 use Rattle.weights.specs.Sizes.{product_tags}
-use Rattle.bytes.specs.Bytes.{four_at}
+use Rattle.file_bytes.specs.Bytes.{four_at}
 use Rattle.fields.specs.declared.LanguageRead.{LanguageRead}
 use Rattle.fields.specs.declared.LanguageRead.TheVariants.{Taken, Refused}
 use Rattle.fields.specs.Nested.{nothing, language_at}

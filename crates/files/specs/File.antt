@@ -7,7 +7,7 @@ use Rattle.refusals.specs.declared.Check.TheVariants.{Passed, Refused}
 use Rattle.fields.specs.declared.Head.{Head}
 use Rattle.fields.specs.declared.HeadRead.{HeadRead}
 use Rattle.fields.specs.declared.HeadRead.TheVariants.{Sound, Refused as Faulty}
-use Rattle.bytes.specs.Bytes.{four_at}
+use Rattle.file_bytes.specs.Bytes.{four_at}
 use Rattle.fields.specs.Header.{head_read}
 use Rattle.records.specs.Records.{body_check}
 

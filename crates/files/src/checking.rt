@@ -3,7 +3,7 @@ ghost use Rattle.std.specs.Prelude.{◌≡◌};
 ghost use Rattle.files.specs.File.{file_read};
 ghost use Rattle.fields.specs.Parts.{SmallHeadRead};
 
-use bytes::four;
+use file_bytes::four;
 use fields::HeadRead;
 use fields::header::header;
 use records::lists::body_check;

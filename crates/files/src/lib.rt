@@ -1,5 +1,7 @@
 // The problem file: its bytes are checked from the first to the last (by `fields` and `records`), then what it lists is written into
 // two lent buffers (by `contents`).
+#![tactic(auto)]
+
 pub mod checking;
 pub mod reading;
 
@@ -7,7 +9,7 @@ use refusals::Refusal;
 use weights::Language;
 
 // What the reader answers: the numbers of the network and the language; or the first refusal.
-#[derive(Drop)]
+#[derive(Clone, Copy)]
 pub enum ReadAnswer {
     Done {
         n: u32,

@@ -1,4 +1,6 @@
 // The single checks that the calls on a network share, each a refusal or none, and the one entrance of these calls.
+#![tactic(auto)]
+
 pub mod entrance;
 
 ghost use Rattle.std.specs.Prelude.{◌≡◌};
@@ -12,7 +14,7 @@ use weights::{Places, WEIGHT_WORDS};
 pub const MOST_NODES: u32 = 16;
 
 // What the checks of a call find: the language in its places, or a refusal.
-#[derive(Drop)]
+#[derive(Clone, Copy)]
 pub enum Ready {
     Given(Places),
     Refused(Refusal),

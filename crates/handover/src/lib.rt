@@ -1,11 +1,13 @@
 // At a handover: the row that the forwarder gets, lent from the new matrix or from the standing one. The calls take every input.
+#![tactic(auto)]
+
 pub mod checks;
 pub mod lending;
 
 use refusals::Refusal;
 
 // The matrix that lends the row.
-#[derive(Drop)]
+#[derive(Clone, Copy)]
 pub enum LenderAnswer {
     Newer,
     Standing,

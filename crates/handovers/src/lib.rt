@@ -1,1 +1,2 @@
 // No code: theorems about the calls of a handover.
+#![tactic(auto)]

@@ -1,4 +1,6 @@
 // The next hop: the call, which takes every input, and the rule in a file of its own.
+#![tactic(auto)]
+
 pub mod next_hop;
 pub mod search;
 
@@ -6,13 +8,13 @@ use numbers::Node;
 use refusals::Refusal;
 
 // What a search over the nodes finds.
-#[derive(Drop)]
+#[derive(Clone, Copy)]
 pub enum HopFound {
     At(Node),
     Nothing,
 }
 
-#[derive(Drop)]
+#[derive(Clone, Copy)]
 pub enum HopAnswer {
     Hop(Node),
     NoHop,

@@ -1,11 +1,13 @@
 // Reads languages from standard input, one to a line, and prints the law report of each.
 // A language is nine numbers: the count, then kind (1 dist, 2 width, 3 class, 4 gain) and limit for each of four places.
+#![tactic(auto)]
+
 use laws::{Law, LawAnswer, Words};
 use refusals::Refusal;
 use weights::{Component, Language};
 
 // A line, as far as it is read: whether a number is being read, that number, and those before it.
-#[derive(Drop)]
+#[derive(Clone, Copy)]
 struct Line {
     within: bool,
     number: u32,

@@ -1,4 +1,6 @@
 // The law report: which of the laws D, U, C a language has, and weights that break a missing one.
+#![tactic(auto)]
+
 ghost use Rattle.std.specs.Prelude.{◌≡◌, ◌&&◌, ◌||◌, [], map};
 ghost use Rattle.weights.specs.Weights.{unit_value, unit_values};
 ghost use Rattle.weights.specs.Laws.{non_trivial, lossy, is_gain, worst, worse_of_two, better_of_two, test_d, test_u, test_c, s_d, x_d, y_d, x_u, s_c};
@@ -10,7 +12,7 @@ use refusals::Refusal;
 use weights::{Checked, Component, Language, Places};
 
 // A flag for each place.
-#[derive(Drop)]
+#[derive(Clone, Copy)]
 pub struct Flags {
     pub first: bool,
     pub second: bool,
@@ -19,7 +21,7 @@ pub struct Flags {
 }
 
 // A word for each place.
-#[derive(Drop)]
+#[derive(Clone, Copy)]
 pub struct Words {
     pub first: u32,
     pub second: u32,
@@ -28,7 +30,7 @@ pub struct Words {
 }
 
 // A law: held, with words 0, or broken by s, x, y.
-#[derive(Drop)]
+#[derive(Clone, Copy)]
 pub struct Law {
     pub held: bool,
     pub s: Words,
@@ -36,7 +38,7 @@ pub struct Law {
     pub y: Words,
 }
 
-#[derive(Drop)]
+#[derive(Clone, Copy)]
 pub enum LawAnswer {
     Laws { d: Law, u: Law, c: Law },
     Refused(Refusal),

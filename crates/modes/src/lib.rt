@@ -1,4 +1,6 @@
 // The three modes of forwarding: what an entry of a table is, how a mode compares two, and how a weight is applied to one.
+#![tactic(auto)]
+
 pub mod applying;
 pub mod choosing;
 pub mod comparing;
@@ -7,7 +9,7 @@ pub mod gaining;
 // The largest t of a mode other than plain.
 pub const LARGEST_T: u32 = 65535;
 
-#[derive(Drop)]
+#[derive(Clone, Copy)]
 pub enum Mode {
     Plain,
     Hot,
@@ -15,14 +17,14 @@ pub enum Mode {
 }
 
 // What a mode's number stands for, with a language and a number of destinations.
-#[derive(Drop)]
+#[derive(Clone, Copy)]
 pub enum Chosen {
     Fits(Mode),
     Unfit,
 }
 
 // A table's entry: a route, with a value in each place, and an outside number t; or empty.
-#[derive(Drop)]
+#[derive(Clone, Copy)]
 pub enum Entry {
     Mapped {
         first: u32,

@@ -1,4 +1,6 @@
 // A language's checks (refusals 5 and 4), and its places with class 0 in the unused ones.
+#![tactic(auto)]
+
 ghost use Rattle.std.specs.Prelude.{◌≡◌, cond, ltb};
 ghost use Rattle.weights.specs.declared.Component.TheVariants.{Class};
 ghost use Rattle.weights.specs.Sizes.{places};

@@ -1,4 +1,6 @@
 // Prints what is read from a descriptor. The text is proved (`print_input`); that the descriptor is read and written no contract can say.
+#![tactic(auto)]
+
 pub fn print_from(fd: i32) {
     let mut file = io::large_buffer();
     let size = io::read_full(fd, &mut file);

@@ -9,7 +9,7 @@ use Rattle.matrices.specs.Buffers.{blocks, cell, first_malformed}
 use Rattle.matrices.specs.Steps.{every}
 use Rattle.tables.specs.Tables.{words_of, table_in}
 use Rattle.routes.specs.Calls.{run_of, done_of}
-use Rattle.bytes.specs.Bytes.{two_at}
+use Rattle.file_bytes.specs.Bytes.{two_at}
 use Rattle.fields.specs.Nested.{added, component_read, language_from}
 use Rattle.fields.specs.Header.{field_check, fields_check, head_read}
 use Rattle.records.specs.Records.{record_length, ends_check, values_check, record_check, records_check, record_list_check, list_end, body_check}

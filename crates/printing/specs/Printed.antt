@@ -12,7 +12,7 @@ use Rattle.fields.specs.declared.HeadRead.{HeadRead}
 use Rattle.fields.specs.declared.HeadRead.TheVariants.{Sound, Refused as Faulty}
 use Rattle.records.specs.declared.Listing.TheVariants.{Arcs, Attachments}
 use Rattle.records.specs.Records.{list_end}
-use Rattle.bytes.specs.Bytes.{two_at}
+use Rattle.file_bytes.specs.Bytes.{two_at}
 use Rattle.files.specs.File.{file_read}
 use Rattle.contents.specs.Contents.{listed_table}
 use Rattle.texts.specs.Lines.{laws_line, route_lines, entry_lines, refused_line}

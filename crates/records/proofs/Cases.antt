@@ -17,7 +17,7 @@ use Rattle.weights.specs.declared.Component.TheVariants.{Dist, Width, Class, Gai
 use Rattle.weights.specs.Sizes.{arc_sum}
 use Rattle.weights.specs.Languages.{components_of}
 use Rattle.weights.specs.Words.{in_range}
-use Rattle.bytes.specs.Bytes.{two_at}
+use Rattle.file_bytes.specs.Bytes.{two_at}
 use Rattle.fields.specs.declared.Head.{Head}
 use Rattle.fields.specs.Cases.{byte_at, cut_case}
 use Rattle.fields.proofs.Cases.{cut_exact}

@@ -16,7 +16,7 @@ use Rattle.records.specs.declared.Listing.{Listing}
 use Rattle.records.specs.declared.Listing.TheVariants.{Arcs, Attachments}
 use Rattle.records.specs.declared.Ends.{Ends}
 use Rattle.records.specs.declared.Ends.TheVariants.{Arc, Attachment}
-use Rattle.bytes.specs.Bytes.{two_at}
+use Rattle.file_bytes.specs.Bytes.{two_at}
 use Rattle.records.specs.Records.{ends_at, ends_check, length_of, record_check, records_check, record_list_check, list_end, body_check}
 use Rattle.records.specs.Parts.{InRange, Listed}
 

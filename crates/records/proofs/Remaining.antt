@@ -16,7 +16,7 @@ use Rattle.weights.specs.declared.Language.{Language}
 use Rattle.weights.specs.Sizes.{places, arc_sum}
 use Rattle.weights.specs.Languages.{components_of}
 use Rattle.weights.specs.Words.{in_range}
-use Rattle.bytes.specs.Bytes.{two_at}
+use Rattle.file_bytes.specs.Bytes.{two_at}
 use Rattle.records.specs.Records.{values_check, length_of, record_check, records_check}
 use Rattle.records.specs.Parts.{component_at}
 use Rattle.fields.specs.declared.Head.{Head}

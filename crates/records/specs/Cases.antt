@@ -10,7 +10,7 @@ use Rattle.weights.specs.Weights.{ValidValue}
 use Rattle.weights.specs.Sums.{sum_here}
 use Rattle.weights.specs.Languages.{components_of}
 use Rattle.weights.specs.Words.{in_range}
-use Rattle.bytes.specs.Bytes.{two_at}
+use Rattle.file_bytes.specs.Bytes.{two_at}
 use Rattle.fields.specs.declared.Head.{Head}
 use Rattle.fields.specs.Cases.{byte_at, cut_case}
 use Rattle.records.specs.declared.Listing.{Listing}

@@ -14,7 +14,7 @@ use Rattle.records.specs.declared.Ends.{Ends}
 use Rattle.records.specs.declared.Ends.TheVariants.{Arc, Attachment}
 use Rattle.records.specs.declared.Listing.{Listing}
 use Rattle.records.specs.declared.Listing.TheVariants.{Arcs, Attachments}
-use Rattle.bytes.specs.Bytes.{two_at}
+use Rattle.file_bytes.specs.Bytes.{two_at}
 
 -- ---- one record
 

@@ -3,11 +3,11 @@ ghost use Rattle.std.specs.Prelude.{◌≡◌, ◌+◌, ◌≤◌};
 ghost use Rattle.weights.specs.Sizes.{places};
 ghost use Rattle.weights.specs.Languages.{components_of};
 ghost use Rattle.records.specs.Records.{record_length, ends_at, ends_check, values_check, record_check};
-ghost use Rattle.bytes.specs.Offsets.{ByteOffset, RecordOffset};
+ghost use Rattle.file_bytes.specs.Offsets.{ByteOffset, RecordOffset};
 ghost use Rattle.records.specs.Parts.{component_at};
 
 use super::{Ends, Listing};
-use bytes::{byte, two};
+use file_bytes::{byte, two};
 use fields::Head;
 use numbers::{Destination, Node};
 use refusals::checks::or_else;

@@ -1,18 +1,20 @@
 // The records of the problem file: the checks of one record, and of the two lists of them.
+#![tactic(auto)]
+
 pub mod checks;
 pub mod lists;
 
 use numbers::{Destination, Node};
 
 // The two lists of a file.
-#[derive(Drop)]
+#[derive(Clone, Copy)]
 pub enum Listing {
     Arcs,
     Attachments,
 }
 
 // What a record stands between: an arc leaves one node for another, an attachment joins a destination to a node.
-#[derive(Drop)]
+#[derive(Clone, Copy)]
 pub enum Ends {
     Arc(Node, Node),
     Attachment(Node, Destination),

@@ -5,7 +5,7 @@ ghost use Rattle.records.specs.Records.{records_check, record_list_check, list_e
 
 use super::Listing;
 use super::checks::{record_check, record_length};
-use bytes::two;
+use file_bytes::two;
 use fields::Head;
 use refusals::checks::or_else;
 use refusals::{Check, Refusal};

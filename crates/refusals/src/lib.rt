@@ -1,10 +1,12 @@
 // 01's refusals: a case for each of its thirteen numbers, each with which and place.
+#![tactic(auto)]
+
 pub mod checks;
 
 ghost use Rattle.std.specs.Prelude.{◌≡◌};
 ghost use Rattle.refusals.specs.Told.{told};
 
-#[derive(Drop)]
+#[derive(Clone, Copy)]
 pub enum Refusal {
     Bytes { which: u32, place: u32 },
     Version { which: u32, place: u32 },
@@ -22,21 +24,21 @@ pub enum Refusal {
 }
 
 // What a check gives.
-#[derive(Drop)]
+#[derive(Clone, Copy)]
 pub enum Check {
     Passed,
     Refused(Refusal),
 }
 
 // The answer of a call that gives no number: done, or refused.
-#[derive(Drop)]
+#[derive(Clone, Copy)]
 pub enum Answer {
     Done,
     Refused(Refusal),
 }
 
 // A refusal as 01 tells it; 0 0 0 is done.
-#[derive(Drop)]
+#[derive(Clone, Copy)]
 pub struct Told {
     pub number: u32,
     pub which: u32,

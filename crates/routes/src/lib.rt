@@ -1,5 +1,7 @@
 // The calls fresh and equation, the checks in 01's order, and the types of which specs/ speaks; the step call stands in `steps`.
 // They take every input.
+#![tactic(auto)]
+
 pub mod checks;
 pub mod equation;
 pub mod fresh;
@@ -12,20 +14,20 @@ pub const MOST_STEPS: usize = 4096;
 pub const FIRST_SETTLE: u32 = 256;
 
 // What a number of a step list means.
-#[derive(Drop)]
+#[derive(Clone, Copy)]
 pub enum Step {
     Row(Node),
     Settle(Node),
 }
 
 // All steps done, or refused after some.
-#[derive(Drop)]
+#[derive(Clone, Copy)]
 pub enum StepsAnswer {
     Done(u32),
     Refused { refusal: Refusal, done: u32 },
 }
 
-#[derive(Drop)]
+#[derive(Clone, Copy)]
 pub enum EquationAnswer {
     Yes,
     No,

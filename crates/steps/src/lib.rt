@@ -1,4 +1,6 @@
 // The call that runs a list of steps, row steps and settles. It takes every input.
+#![tactic(auto)]
+
 ghost use Rattle.std.specs.Prelude.{◌≡◌, true, [], ◌∷◌, map, ◌≤◌, length};
 ghost use Rattle.refusals.specs.Cases.{check_of};
 ghost use Rattle.weights.specs.Languages.{places_of};

@@ -1,4 +1,6 @@
 // The forwarding sum: F(i,d) is the best over k of R(i,k) applied to M(k,d).
+#![tactic(auto)]
+
 ghost use Rattle.std.specs.Prelude.{◌≡◌, ◌++◌, ◌*◌, ◌≤◌, ◌<◌, length, drop};
 ghost use Rattle.algebra.specs.Order.{pick};
 ghost use Rattle.algebra.specs.Modes.{forwarded};

@@ -1,5 +1,7 @@
 // The single checks that only forwarding has: 3 on m and on the mode, 9 on a table, 10 for law C. That of 6 on M is in `tables`, that of
 // 12 in `forwarding`.
+#![tactic(auto)]
+
 ghost use Rattle.std.specs.Prelude.{◌≡◌};
 ghost use Rattle.weights.specs.Languages.{places_of};
 ghost use Rattle.table_guards.specs.Checks.{destinations_case, chosen_check, chosen_mode, table_length_measured, law_cCheck};

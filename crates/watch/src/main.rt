@@ -1,5 +1,7 @@
 // Replays the incident that the handover is built against (01, P8): two depots lose their links to the order server, and in the old
 // matrix, handed to the new engine, each goes on confirming the other's route. One screen to a step.
+#![tactic(auto)]
+
 mod network;
 mod scenes;
 mod showing;

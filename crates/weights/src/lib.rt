@@ -1,4 +1,6 @@
 // Components, languages and weights, as calls are given them.
+#![tactic(auto)]
+
 pub mod comparing;
 pub mod gaining;
 pub mod joining;
@@ -23,7 +25,7 @@ pub const ARC_SUM: u32 = 65535;
 pub const MATRIX_SUM: u32 = 983025;
 
 // A component is one of four kinds, two of which carry a limit.
-#[derive(Drop)]
+#[derive(Clone, Copy)]
 pub enum Component {
     Dist,
     Width(u16),
@@ -32,7 +34,7 @@ pub enum Component {
 }
 
 // A language: `count` components; the places after them are ignored.
-#[derive(Drop)]
+#[derive(Clone, Copy)]
 pub struct Language {
     pub count: u32,
     pub first: Component,
@@ -42,7 +44,7 @@ pub struct Language {
 }
 
 // A language in four places, an unused one holding class 0, whose single value is the unused word 0.
-#[derive(Drop)]
+#[derive(Clone, Copy)]
 pub struct Places {
     pub first: Component,
     pub second: Component,
@@ -51,7 +53,7 @@ pub struct Places {
 }
 
 // A route has a value in each place.
-#[derive(Drop)]
+#[derive(Clone, Copy)]
 pub enum Weight {
     Route {
         first: u32,
@@ -62,7 +64,7 @@ pub enum Weight {
     NoRoute,
 }
 
-#[derive(Drop)]
+#[derive(Clone, Copy)]
 pub enum Comparison {
     Better,
     Equal,
@@ -70,14 +72,14 @@ pub enum Comparison {
 }
 
 // What the words of a weight stand for.
-#[derive(Drop)]
+#[derive(Clone, Copy)]
 pub enum Read {
     Good(Weight),
     Malformed,
 }
 
 // What the check of a language finds.
-#[derive(Drop)]
+#[derive(Clone, Copy)]
 pub enum Checked {
     Sound(Places),
     Unsound(Refusal),

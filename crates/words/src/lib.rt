@@ -1,4 +1,6 @@
 // Weights in buffers: reading, with malformed patterns told apart, and writing.
+#![tactic(auto)]
+
 ghost use Rattle.std.specs.Prelude.{◌≡◌, ◌∷◌, [], ◌+◌, ◌≤◌, length, take, drop};
 ghost use Rattle.std.proofs.lemmas.List.Edits.{sets};
 ghost use Rattle.weights.specs.Sizes.{places, weight_words, ones};

@@ -27,7 +27,7 @@ use Rattle.modes.specs.declared.Mode.TheVariants.{Hot}
 use Rattle.modes.specs.Entries.{mapped, mode_of}
 use Rattle.tables.specs.Tables.{table_in}
 use Rattle.fields.specs.declared.HeadRead.TheVariants.{Sound}
-use Rattle.bytes.specs.Bytes.{two_at}
+use Rattle.file_bytes.specs.Bytes.{two_at}
 use Rattle.fields.specs.Nested.{added, component_read, language_from}
 use Rattle.fields.specs.Header.{field_check, fields_check, head_read}
 use Rattle.records.specs.Records.{record_length, ends_check, values_check, record_check, records_check, record_list_check, list_end, body_check}

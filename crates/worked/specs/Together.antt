@@ -21,7 +21,7 @@ use Rattle.histories.specs.Examples.{written, distance, distance_language, depot
 use Rattle.fields.specs.declared.Head.{Head}
 use Rattle.fields.specs.declared.HeadRead.TheVariants.{Sound}
 use Rattle.records.specs.declared.Listing.TheVariants.{Arcs, Attachments}
-use Rattle.bytes.specs.Bytes.{two_at}
+use Rattle.file_bytes.specs.Bytes.{two_at}
 use Rattle.records.specs.Records.{list_end}
 use Rattle.files.specs.File.{file_read}
 use Rattle.contents.specs.Contents.{listed_table}

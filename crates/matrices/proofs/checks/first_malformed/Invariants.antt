@@ -1,0 +1,15 @@
+use Prim.Native.Nat.{◌*◌, ◌-◌, ◌≤◌}
+use mathlib.Core.Path.{◌≡◌, sym, ◌∙◌}
+use native.Mathlib.Nat.{sub-zero}
+use native.Mathlib.Omega.{arith}
+use Rattle.weights.specs.Sizes.{weight_words}
+use Rattle.weights.specs.Languages.{places_of}
+use Rattle.matrices.specs.Buffers.{words_at, well_formed, first_malformed, matrix_check}
+use Rattle.matrices.proofs.Malformed.{first_good, first_bad, first_none, few_entries, entries_words, read_good, read_bad}
+use Rattle.matrices.proofs.checks.first_malformed.Given as goal
+
+abbrev pub invariant-loop-e : goal.invariant-loop-e
+invariant-loop-e l = (l.e ≤ l.count) × (matrix_check l.which l.cap (places_of l.p) l.n l.s ≡ first_malformed (well_formed l.cap (places_of l.p) l.s) weight_words l.which l.e (l.count - l.e))
+
+abbrev pub decreases-loop-e : goal.decreases-loop-e
+decreases-loop-e l = l.count - l.e
