@@ -7,12 +7,12 @@ use Rattle.texts.proofs.Composing.{put_plain, put_outside}
 use Rattle.texts.proofs.pieces.put_entry.Goals as goal
 
 pub returns-then-mode-eq-PLAIN : goal.returns-then-mode-eq-PLAIN
-returns-then-mode-eq-PLAIN c = let v = c.e-1.given.0 in     rw c.in-Mapped.is
-    (put_plain c.args.mode v.1.1.1.1.0 (take c.args.count (v.0 ∷ v.1.0 ∷ v.1.1.0 ∷ v.1.1.1.0 ∷ [])) c.put_values-end.ensures c.if-mode-eq-PLAIN.true)
+returns-then-mode-eq-PLAIN c = rw c.in-Mapped.is
+    (put_plain c.args.mode c.in-Mapped.t (take c.args.count (c.in-Mapped.first ∷ c.in-Mapped.second ∷ c.in-Mapped.third ∷ c.in-Mapped.fourth ∷ [])) c.put_values-end.ensures c.if-mode-eq-PLAIN.true)
 
 pub returns-in-Mapped : goal.returns-in-Mapped
-returns-in-Mapped c = let v = c.e-1.given.0 in     rw c.in-Mapped.is
-    (put_outside c.args.mode v.1.1.1.1.0 (take c.args.count (v.0 ∷ v.1.0 ∷ v.1.1.0 ∷ v.1.1.1.0 ∷ [])) c.put_values-end.ensures c.if-mode-eq-PLAIN.false c.put_field.ensures)
+returns-in-Mapped c = rw c.in-Mapped.is
+    (put_outside c.args.mode c.in-Mapped.t (take c.args.count (c.in-Mapped.first ∷ c.in-Mapped.second ∷ c.in-Mapped.third ∷ c.in-Mapped.fourth ∷ [])) c.put_values-end.ensures c.if-mode-eq-PLAIN.false c.put_field.ensures)
 
 pub returns-in-Empty : goal.returns-in-Empty
 returns-in-Empty c = rw c.in-Empty.is (put_as c.put_missing.ensures refl (omega arith))

@@ -7,7 +7,7 @@ use Rattle.texts.proofs.Growing.{Grown, grown_none, grown_more, grown_all}
 use Rattle.texts.proofs.rows.put_forward_row.Given as goal
 
 -- line d of the row
-abbrev line : ℕ → ℕ → ℕ → ℕ → List ℕ → ℕ → List ℕ
+abbrev pub line : ℕ → ℕ → ℕ → ℕ → List ℕ → ℕ → List ℕ
 line count mode m i f d = entry_line mode i d (table_in count m f i d)
 
 abbrev pub invariant-loop-d : goal.invariant-loop-d

@@ -8,7 +8,7 @@ use Rattle.texts.proofs.Growing.{Grown, grown_none, grown_more, grown_all}
 use Rattle.texts.proofs.rows.put_forwards.Given as goal
 
 -- the lines of row i
-abbrev row : ℕ → ℕ → ℕ → List ℕ → ℕ → List ℕ
+abbrev pub row : ℕ → ℕ → ℕ → List ℕ → ℕ → List ℕ
 row count mode m f i = entry_row mode m (table_in count m f) i
 
 abbrev pub invariant-loop-i : goal.invariant-loop-i

@@ -7,7 +7,7 @@ use Rattle.texts.proofs.Growing.{Grown, grown_none, grown_more, grown_all}
 use Rattle.texts.proofs.rows.put_route_row.Given as goal
 
 -- line j of the row
-abbrev line : ℕ → ℕ → ℕ → List ℕ → ℕ → List ℕ
+abbrev pub line : ℕ → ℕ → ℕ → List ℕ → ℕ → List ℕ
 line count n i r j = route_line i j (matrix_in count n r i j)
 
 abbrev pub invariant-loop-j : goal.invariant-loop-j

@@ -8,7 +8,7 @@ use Rattle.texts.proofs.Growing.{Grown, grown_none, grown_more, grown_all}
 use Rattle.texts.proofs.rows.put_routes.Given as goal
 
 -- the lines of row i
-abbrev row : ℕ → ℕ → List ℕ → ℕ → List ℕ
+abbrev pub row : ℕ → ℕ → List ℕ → ℕ → List ℕ
 row count n r i = route_row n (matrix_in count n r) i
 
 abbrev pub invariant-loop-i : goal.invariant-loop-i
