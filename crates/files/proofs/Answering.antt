@@ -20,13 +20,13 @@ use Rattle.contents.specs.Contents.{list_over}
 use Rattle.files.specs.Answers.{Row, read_said, sized, ReadSays}
 
 module _ (s a m : List ℕ) where
-  pub short_arcs : length a < 1024 → ReadSays s a m a m (Refused (Length 1 0))
+  pub short_arcs_lem : length a < 1024 → ReadSays s a m a m (Refused (Length 1 0))
   unfolding sized
-  short_arcs h = record { answer = rw (lt-ltb _ _ h); arcs_hold = rw (lt-ltb _ _ h); mapping_holds = rw (lt-ltb _ _ h) }
+  short_arcs_lem h = record { answer = rw (lt-ltb _ _ h); arcs_hold = rw (lt-ltb _ _ h); mapping_holds = rw (lt-ltb _ _ h) }
 
-  pub short_mapping : 1024 ≤ length a → length m < 2560 → ReadSays s a m a m (Refused (Length 3 0))
+  pub short_mapping_lem : 1024 ≤ length a → length m < 2560 → ReadSays s a m a m (Refused (Length 3 0))
   unfolding sized
-  short_mapping g h = record {
+  short_mapping_lem g h = record {
     answer = rw (le-ltb _ _ g, lt-ltb _ _ h);
     arcs_hold = rw (le-ltb _ _ g, lt-ltb _ _ h);
     mapping_holds = rw (le-ltb _ _ g, lt-ltb _ _ h);

@@ -40,7 +40,7 @@ head_row (Faulty r) = refused_row r
 
 -- the buffers' lengths come first: A is buffer 1, M is 3
 unfoldable pub sized : {X : Type 0} → List ℕ → List ℕ → X → X → X → X
-sized arcs mapping shortArcs shortMapping x = cond (ltb (length arcs) 1024) shortArcs (cond (ltb (length mapping) 2560) shortMapping x)
+sized arcs mapping short_arcs short_mapping x = cond (ltb (length arcs) 1024) short_arcs (cond (ltb (length mapping) 2560) short_mapping x)
 
 -- the row that a file gives with two buffers
 abbrev pub file_row : List ℕ → List ℕ → List ℕ → Row

@@ -27,7 +27,7 @@ use Rattle.guards.specs.OnNetwork.{OnNetwork, components, arcs_on}
 use Rattle.guards.proofs.Cases.{arcs_exact, length_exact, nodes_exact, routes_exact}
 use Rattle.guards.proofs.Entering.{call_exact}
 use Rattle.routes.proofs.Bridge.{entry_valid}
-use Rattle.table_guards.specs.Checks.{law_cCase, mode_case}
+use Rattle.table_guards.specs.Checks.{law_c_case, mode_case}
 use Rattle.table_guards.proofs.TableCases.{destinations_exact, law_c_exact, mapping_exact, mode_exact, solves_exact, table_length_exact}
 use Rattle.forwarding.specs.Calls.{OnTables, on_tables, mode_meant, routes_on, forward_cases, forward_check}
 use Rattle.forwarding.proofs.Order.{WellGiven, well_given, twelve_last}
@@ -77,7 +77,7 @@ module _ (T : OnTables) (f : List ℕ) where
       let only = only_at 11 (forward_cases T f) (Law 3 0) (λ place. refl) in
       (λ e. there (only.0 ((forward_told.refused (Law 3 0)).0 e)), λ (u, h, g). (forward_told.refused (Law 3 0)).1 (only.1 (u, (0, refl, (refl, h, g)))))
     where
-      there : NoneDue (first_cases 11 (forward_cases T f)) × DueIn (law_cCase T.mode (mode_meant T) cs) (Law 3 0) → NoneDue (first_cases 11 (forward_cases T f)) × (T.mode ≡ 2) × (LawC cs → ⊥)
+      there : NoneDue (first_cases 11 (forward_cases T f)) × DueIn (law_c_case T.mode (mode_meant T) cs) (Law 3 0) → NoneDue (first_cases 11 (forward_cases T f)) × (T.mode ≡ 2) × (LawC cs → ⊥)
       there (u, (k, q, (z, h, g))) = (u, h, g)
 
   -- 12 2 0 exactly where nothing is due in the fifteen cases before it and R does not satisfy R = (A join R) best fresh.

@@ -41,8 +41,8 @@ module _ (T : OnTables) (f : List ℕ) where
     abbrev table : Mode → List Component → List ℕ
     table k ds = table_words n m (forwarded (language ds) (mode_of k ds) n (matrix_in places n routes) (table_in places m mapping))
 
-    pub forward-done : (left : List ℕ) → left ≡ table mode (places_of p) → (answer_told Done ≡ check_told (forward_check T f)) × (left ≡ forward_left T f)
-    forward-done left h =
+    pub forward_done : (left : List ℕ) → left ≡ table mode (places_of p) → (answer_told Done ≡ check_told (forward_check T f)) × (left ≡ forward_left T f)
+    forward_done left h =
         let passes = contents_then T f q p o meant qc e in (
           ap check_told (sym passes),
           h

@@ -37,7 +37,7 @@ use Rattle.guards.proofs.Singles as singles
 use Rattle.guards.specs.Entrance.{length_measured, entrance_check, Entered}
 use Rattle.guards.proofs.Singles.{nodes_passed, length_passed}
 use Rattle.guards.proofs.Entering.{entrance_refuses, entrance_leaves, sizes_passed, lengths_passed}
-use Rattle.table_guards.specs.Checks.{most_destinations, chosen_check, destinations_case, mode_case, table_length_case, law_cCheck, mapping_case, solves_case, law_cCase, table_length_measured}
+use Rattle.table_guards.specs.Checks.{most_destinations, chosen_check, destinations_case, mode_case, table_length_case, law_c_check, mapping_case, solves_case, law_c_case, table_length_measured}
 use Rattle.table_guards.proofs.TableSingles.{destinations_passed, table_length_passed, law_c_passed, table_measured}
 use Rattle.routes.proofs.Order.{placed_sound, arcs_same, routes_same, two_checks}
 use Rattle.routes.proofs.Bridge.{buffer_goes, solves_go}
@@ -59,7 +59,7 @@ pub record BuffersFormed (mode : Mode) (cs : List Component) (n m : ℕ) (a r ma
 module _ (mode : Mode) (cs : List Component) (n m : ℕ) (a r mapping : List ℕ) where
   -- all of the contents but 12
   abbrev firsts : List Check
-  firsts = law_cCheck mode cs ∷ (arcs_case cs n a).check ∷ (routes_case cs n r).check ∷ (mapping_case mode cs n m mapping).check ∷ []
+  firsts = law_c_check mode cs ∷ (arcs_case cs n a).check ∷ (routes_case cs n r).check ∷ (mapping_case mode cs n m mapping).check ∷ []
 
   -- .. and 12 after it
   solves_last : contents_check mode cs n m a r mapping ≡ or_else (first_of firsts) (solves_case cs n a r).check
@@ -73,7 +73,7 @@ module _ (mode : Mode) (cs : List Component) (n m : ℕ) (a r mapping : List ℕ
   -- ---- what the code finds after the entrance
 
   module _ (g : Measured cs n m a r mapping) {by_c by_arcs by_routes by_mapping by_tables by_entries found : Check}
-      (q_c : by_c ≡ law_cCheck mode cs) (qa : by_arcs ≡ (arcs_case cs n a).check) (qr : by_routes ≡ (routes_case cs n r).check) (qm : by_mapping ≡ (mapping_case mode cs n m mapping).check)
+      (q_c : by_c ≡ law_c_check mode cs) (qa : by_arcs ≡ (arcs_case cs n a).check) (qr : by_routes ≡ (routes_case cs n r).check) (qm : by_mapping ≡ (mapping_case mode cs n m mapping).check)
       (qt : by_tables ≡ or_else by_routes by_mapping) (qe : by_entries ≡ or_else by_arcs by_tables) (q : found ≡ or_else by_c by_entries) where
     found_firsts : found ≡ first_of firsts
     found_firsts = q ∙ ap₂ or_else q_c (qe ∙ ap₂ or_else qa (qt ∙ two_checks (routes_case cs n r).check (mapping_case mode cs n m mapping).check qr qm))
@@ -105,7 +105,7 @@ module _ (T : OnTables) (f : List ℕ) where
   lengths = length_case 1 n arcs ∷ length_case 2 n routes ∷ table_length_case 3 n m mapping ∷ table_length_case 4 n m f ∷ []
 
   abbrev contents : List Case
-  contents = law_cCase T.mode (mode_meant T) cs ∷ arcs_case cs n arcs ∷ routes_case cs n routes ∷ mapping_case (mode_meant T) cs n m mapping ∷ solves_case cs n arcs routes ∷ []
+  contents = law_c_case T.mode (mode_meant T) cs ∷ arcs_case cs n arcs ∷ routes_case cs n routes ∷ mapping_case (mode_meant T) cs n m mapping ∷ solves_case cs n arcs routes ∷ []
 
   -- there are at most 16 nodes and 32 destinations where the sizes pass
   few_of_both : check_of sizes ≡ Passed → (n ≤ most_nodes) × (m ≤ most_destinations)
@@ -162,7 +162,7 @@ module _ (T : OnTables) (f : List ℕ) where
         buffer_same : (cap : ℕ) (s : List ℕ) → Formed cap (places_of p) n s → GoesTo (language cs) (language (places_of p)) (Valid cs) (pad_weight places) n (matrix_in (length cs) n s) (matrix_in places n s)
         buffer_same cap s w = buffer_goes cs p (few network.language) o.in_places.placed (placed_sound network.language p o.in_places) n arcs cap s w
 
-        law_c_same : law_cCheck mode (places_of p) ≡ law_cCheck mode cs
+        law_c_same : law_c_check mode (places_of p) ≡ law_c_check mode cs
         law_c_same = ap (λ (b : Bool). unless (not (needs_c mode) || b) (Law 3 0)) (ap test_c o.in_places.placed ∙ test_c_pad places cs (few network.language))
 
         mapping_same : (mapping_case mode (places_of p) n m mapping).check ≡ (mapping_case mode cs n m mapping).check

@@ -15,7 +15,7 @@ use Rattle.modes.specs.Entries.{Entry, mode_for, mode_of}
 use Rattle.tables.specs.Tables.{table_words, table_in}
 use Rattle.guards.specs.Checks.{nodes_case, length_case, arcs_case, routes_case, call_cases}
 use Rattle.guards.specs.OnNetwork.{OnNetwork, components, matrix_on}
-use Rattle.table_guards.specs.Checks.{chosen_mode, destinations_case, mode_case, table_length_case, law_cCase, mapping_case, solves_case}
+use Rattle.table_guards.specs.Checks.{chosen_mode, destinations_case, mode_case, table_length_case, law_c_case, mapping_case, solves_case}
 
 -- ---- what the call is given
 
@@ -62,7 +62,7 @@ module _ (T : OnTables) where
   forward_cases f =
       call_cases network.language (nodes_case n ∷ destinations_case m ∷ mode_case cs m mode ∷ [])
       (length_case 1 n arcs ∷ length_case 2 n routes ∷ table_length_case 3 n m mapping ∷ table_length_case 4 n m f ∷ [])
-      (law_cCase mode mode_meant cs ∷ arcs_case cs n arcs ∷ routes_case cs n routes ∷ mapping_case mode_meant cs n m mapping ∷ solves_case cs n arcs routes ∷ [])
+      (law_c_case mode mode_meant cs ∷ arcs_case cs n arcs ∷ routes_case cs n routes ∷ mapping_case mode_meant cs n m mapping ∷ solves_case cs n arcs routes ∷ [])
 
   -- the refusal that the call answers, or that it is done
   abbrev pub forward_check : List ℕ → Check

@@ -10,7 +10,7 @@ use Rattle.matrices.specs.Buffers.{Square}
 use Rattle.modes.specs.declared.Mode.{Mode}
 use Rattle.tables.specs.Tables.{Sized}
 use Rattle.guards.specs.Checks.{arcs_case, routes_case}
-use Rattle.table_guards.specs.Checks.{law_cCheck, mapping_case, solves_case}
+use Rattle.table_guards.specs.Checks.{law_c_check, mapping_case, solves_case}
 
 -- the places of a sound and lawful language, and A, R and M of their lengths
 pub record Measured (cs : List Component) (n m : ℕ) (a r mapping : List ℕ) : Type 0 where
@@ -24,4 +24,4 @@ pub record Measured (cs : List Component) (n m : ℕ) (a r mapping : List ℕ) :
 
 -- 10 for C, 6 on A, R, M, 12
 abbrev pub contents_check : Mode → List Component → ℕ → ℕ → List ℕ → List ℕ → List ℕ → Check
-contents_check mode cs n m a r mapping = first_of (law_cCheck mode cs ∷ (arcs_case cs n a).check ∷ (routes_case cs n r).check ∷ (mapping_case mode cs n m mapping).check ∷ (solves_case cs n a r).check ∷ [])
+contents_check mode cs n m a r mapping = first_of (law_c_check mode cs ∷ (arcs_case cs n a).check ∷ (routes_case cs n r).check ∷ (mapping_case mode cs n m mapping).check ∷ (solves_case cs n a r).check ∷ [])

@@ -14,7 +14,7 @@ use Rattle.weights.specs.Sizes.{weight_words, arc_sum, matrix_sum}
 use Rattle.weights.specs.Weights.{Sound}
 use Rattle.weights.proofs.Decided.{d_exact, u_exact}
 use Rattle.matrices.proofs.Malformed.{entries_exact}
-use Rattle.guards.specs.Checks.{most_nodes, most_steps, first_settle, is_step, IsStep, nodes_case, length_case, law_dCase, law_uCase, arcs_case, routes_case, many_case, list_case, node_case}
+use Rattle.guards.specs.Checks.{most_nodes, most_steps, first_settle, is_step, IsStep, nodes_case, length_case, law_d_case, law_u_case, arcs_case, routes_case, many_case, list_case, node_case}
 
 pub nodes_exact : (n : ℕ) → Exact (nodes_case n)
 nodes_exact n = unless_exact (Size 1) 0 (both_exactly (leb_exactly 1 n) (leb_exactly n most_nodes))
@@ -22,10 +22,10 @@ nodes_exact n = unless_exact (Size 1) 0 (both_exactly (leb_exactly 1 n) (leb_exa
 pub length_exact : (which n : ℕ) (s : List ℕ) → Exact (length_case which n s)
 length_exact which n s = unless_exact (Length which) 0 (eqb_exactly (length s) (n * (n * weight_words)))
 
-pub law_d_exact : (cs : List Component) → Sound cs → Exact (law_dCase cs)
+pub law_d_exact : (cs : List Component) → Sound cs → Exact (law_d_case cs)
 law_d_exact cs s = unless_exact (Law 1) 0 (d_exact cs s)
 
-pub law_u_exact : (cs : List Component) → Sound cs → Exact (law_uCase cs)
+pub law_u_exact : (cs : List Component) → Sound cs → Exact (law_u_case cs)
 law_u_exact cs s = unless_exact (Law 2) 0 (u_exact cs s)
 
 pub arcs_exact : (cs : List Component) (n : ℕ) (a : List ℕ) → Exact (arcs_case cs n a)

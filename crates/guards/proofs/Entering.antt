@@ -20,7 +20,7 @@ use Rattle.weights.specs.Languages.{components_of, language_cases, language_chec
 use Rattle.weights.proofs.Padding.{test_d_pad, test_u_pad, sound_pad}
 use Rattle.weights.proofs.Checking.{few, check_sound}
 use Rattle.weights.proofs.Cases.{count_exact, limit_exact, limit_sound}
-use Rattle.guards.specs.Checks.{law_dCase, law_uCase, call_cases}
+use Rattle.guards.specs.Checks.{law_d_case, law_u_case, call_cases}
 use Rattle.guards.specs.Entrance.{laws_check, entrance_check, Entered}
 use Rattle.guards.proofs.Cases.{law_d_exact, law_u_exact}
 
@@ -31,8 +31,8 @@ laws_same l p e = ap₂ (λ (x y : Bool). first_of (unless x (Law 1 0) ∷ unles
 
 pub laws_passed : (cs : List Component) → laws_check cs ≡ Passed → (test_d cs ≡ true) × (test_u cs ≡ true)
 laws_passed cs e =
-    let h = both_pass (law_dCase cs).check (first_of ((law_uCase cs).check ∷ [])) e in
-    (unless_passes (test_d cs) (Law 1 0) h.0, unless_passes (test_u cs) (Law 2 0) (both_pass (law_uCase cs).check Passed h.1).0)
+    let h = both_pass (law_d_case cs).check (first_of ((law_u_case cs).check ∷ [])) e in
+    (unless_passes (test_d cs) (Law 1 0) h.0, unless_passes (test_u cs) (Law 2 0) (both_pass (law_u_case cs).check Passed h.1).0)
 
 -- ---- what the code finds
 
@@ -73,10 +73,10 @@ module _ (l : Language) (sizes lengths rest : List Case) where
   -- the call's cases go through the entrance, and on with the rest
   entrance_first : check_of (call_cases l sizes lengths rest) ≡ or_else (entrance_check l (check_of sizes) (check_of lengths)) (check_of rest)
   entrance_first =
-      check_append sizes (language_cases l ++ (lengths ++ law_dCase (components_of l) ∷ law_uCase (components_of l) ∷ rest))
-      ∙ ap (or_else (check_of sizes)) (check_append (language_cases l) (lengths ++ law_dCase (components_of l) ∷ law_uCase (components_of l) ∷ rest)
-      ∙ ap (or_else (language_check l)) (check_append lengths (law_dCase (components_of l) ∷ law_uCase (components_of l) ∷ rest)
-      ∙ ap (or_else (check_of lengths)) (check_append (law_dCase (components_of l) ∷ law_uCase (components_of l) ∷ []) rest) ∙ sym (or_else_assoc (check_of lengths) (laws_check (components_of l)) (check_of rest)))
+      check_append sizes (language_cases l ++ (lengths ++ law_d_case (components_of l) ∷ law_u_case (components_of l) ∷ rest))
+      ∙ ap (or_else (check_of sizes)) (check_append (language_cases l) (lengths ++ law_d_case (components_of l) ∷ law_u_case (components_of l) ∷ rest)
+      ∙ ap (or_else (language_check l)) (check_append lengths (law_d_case (components_of l) ∷ law_u_case (components_of l) ∷ rest)
+      ∙ ap (or_else (check_of lengths)) (check_append (law_d_case (components_of l) ∷ law_u_case (components_of l) ∷ []) rest) ∙ sym (or_else_assoc (check_of lengths) (laws_check (components_of l)) (check_of rest)))
       ∙ sym (or_else_assoc (language_check l) (or_else (check_of lengths) (laws_check (components_of l))) (check_of rest)))
       ∙ sym (or_else_assoc (check_of sizes) (or_else (language_check l) (or_else (check_of lengths) (laws_check (components_of l)))) (check_of rest))
 

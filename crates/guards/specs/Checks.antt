@@ -35,12 +35,12 @@ abbrev pub length_case : ℕ → ℕ → List ℕ → Case
 length_case which n s = due_unless (eqb (length s) (n * (n * weight_words))) (length s ≡ n * (n * weight_words)) (Length which) 0
 
 -- 10: law D fails over all weights
-abbrev pub law_dCase : List Component → Case
-law_dCase cs = due_unless (test_d cs) (LawD cs) (Law 1) 0
+abbrev pub law_d_case : List Component → Case
+law_d_case cs = due_unless (test_d cs) (LawD cs) (Law 1) 0
 
 -- 10: law U does, which is told after D
-abbrev pub law_uCase : List Component → Case
-law_uCase cs = due_unless (test_u cs) (LawU cs) (Law 2) 0
+abbrev pub law_u_case : List Component → Case
+law_u_case cs = due_unless (test_u cs) (LawU cs) (Law 2) 0
 
 -- 6 on A (buffer 1), whose sums are at most 65,535
 abbrev pub arcs_case : List Component → ℕ → List ℕ → Case
@@ -74,7 +74,7 @@ node_case place n i = due_unless (ltb i n) (i < n) (NoSuch 0) place
 
 -- 3, 5, 4, 9, 10, and what a call has besides; its sizes and its buffers' lengths are its own
 abbrev pub call_cases : Language → List Case → List Case → List Case → List Case
-call_cases l sizes lengths rest = sizes ++ (language_cases l ++ (lengths ++ law_dCase (components_of l) ∷ law_uCase (components_of l) ∷ rest))
+call_cases l sizes lengths rest = sizes ++ (language_cases l ++ (lengths ++ law_d_case (components_of l) ∷ law_u_case (components_of l) ∷ rest))
 
 -- ---- a list from a number on
 

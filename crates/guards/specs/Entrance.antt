@@ -13,7 +13,7 @@ use Rattle.weights.specs.Laws.{test_d, test_u}
 use Rattle.weights.specs.Languages.{components_of, language_check, padded, places_of, SmallLimits}
 use Rattle.guards.specs.declared.Ready.{Ready}
 use Rattle.guards.specs.declared.Ready.TheVariants.{Given, Refused as call_refused}
-use Rattle.guards.specs.Checks.{law_dCase, law_uCase, most_nodes, length_case}
+use Rattle.guards.specs.Checks.{law_d_case, law_u_case, most_nodes, length_case}
 use Rattle.refusals.specs.Cases.{check_of}
 
 -- 9 on a matrix, where n is at most 16; else passed, since 3 is told
@@ -22,7 +22,7 @@ length_measured which n s = cond (leb n most_nodes) (length_case which n s).chec
 
 -- 10: D, then U
 abbrev pub laws_check : List Component → Check
-laws_check cs = check_of (law_dCase cs ∷ law_uCase cs ∷ [])
+laws_check cs = check_of (law_d_case cs ∷ law_u_case cs ∷ [])
 
 -- 3, 5, 4, 9, 10, by what the call's own sizes and lengths give
 abbrev pub entrance_check : Language → Check → Check → Check

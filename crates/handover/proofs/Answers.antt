@@ -33,7 +33,7 @@ use Rattle.routes.proofs.Order.{placed_sound}
 
 -- the row by what the checks and the test give
 abbrev pub lender_row_by : Check → Bool → LenderRow
-lender_row_by c isNew = record { told = check_told c; buffer = if_passed c (cond isNew 2 5) 0 }
+lender_row_by c is_new = record { told = check_told c; buffer = if_passed c (cond is_new 2 5) 0 }
 
 module _ (N : OnNetwork) (standing newer : List ℕ) (i : ℕ) where
   open N use {n, arcs}
@@ -41,47 +41,47 @@ module _ (N : OnNetwork) (standing newer : List ℕ) (i : ℕ) where
   abbrev check : Check
   check = handover_check N standing newer i
 
-  abbrev isNew : Bool
-  isNew = is_best N newer
+  abbrev is_new : Bool
+  is_new = is_best N newer
 
   -- ---- the lender
 
-  pub lender-refused : (x : Refusal) → check ≡ Refused x → lender_said (LenderRefused x) ≡ lender_row N standing newer i
-  lender-refused x e = ap (λ (c : Check). lender_row_by c isNew) (sym e)
+  pub lender_refused : (x : Refusal) → check ≡ Refused x → lender_said (LenderRefused x) ≡ lender_row N standing newer i
+  lender_refused x e = ap (λ (c : Check). lender_row_by c is_new) (sym e)
 
   module _ (p : Places) (k : HandoverChecked N standing newer i p) {b : Bool} (q : b ≡ same_values newer (matrix_words n (best (language (places_of p)) n (matrix_in places n arcs)))) where
     -- the best weights have the same words in the places and in the language
-    best-same : matrix_words n (best (language (places_of p)) n (matrix_in places n arcs)) ≡ best_words N
-    best-same =
+    best_same : matrix_words n (best (language (places_of p)) n (matrix_in places n arcs)) ≡ best_words N
+    best_same =
         let o = k.in_places in
         let s = placed_sound N.language p o in
         sym (words_go (components N) p (few N.language) o.placed s n arcs (best (language (components N)) n (arcs_on N)) (best (language (places_of p)) n (matrix_in places n arcs))
         (best_goes (language (components N)) (language (places_of p)) (Valid (components N)) (pad_weight places) (embedded (components N) p (few N.language) o.placed s n arcs) n (arcs_on N) (matrix_in places n arcs)
         (buffer_goes (components N) p (few N.language) o.placed s n arcs arc_sum arcs k.arcs.arcs)))
 
-    told-by : lender_row_by Passed b ≡ lender_row N standing newer i
-    told-by = ap (lender_row_by Passed) (q ∙ ap (same_values newer) best-same) ∙ ap (λ (c : Check). lender_row_by c isNew) (sym k.passes)
+    told_by : lender_row_by Passed b ≡ lender_row N standing newer i
+    told_by = ap (lender_row_by Passed) (q ∙ ap (same_values newer) best_same) ∙ ap (λ (c : Check). lender_row_by c is_new) (sym k.passes)
 
-    pub lender-newer : b ≡ true → lender_said Newer ≡ lender_row N standing newer i
-    lender-newer t = ap (lender_row_by Passed) (sym t) ∙ told-by
+    pub lender_newer : b ≡ true → lender_said Newer ≡ lender_row N standing newer i
+    lender_newer t = ap (lender_row_by Passed) (sym t) ∙ told_by
 
-    pub lender-standing : b ≡ false → lender_said Standing ≡ lender_row N standing newer i
-    lender-standing t = ap (lender_row_by Passed) (sym t) ∙ told-by
+    pub lender_standing : b ≡ false → lender_said Standing ≡ lender_row N standing newer i
+    lender_standing t = ap (lender_row_by Passed) (sym t) ∙ told_by
 
   -- ---- what the lender's answer says
 
-  pub newer-says : lender_said Newer ≡ lender_row N standing newer i → (check ≡ Passed) × (isNew ≡ true)
-  newer-says e = go check isNew refl refl e
+  pub newer_says : lender_said Newer ≡ lender_row N standing newer i → (check ≡ Passed) × (is_new ≡ true)
+  newer_says e = go check is_new refl refl e
     where
-      go : (c : Check) (b : Bool) → check ≡ c → isNew ≡ b → lender_said Newer ≡ lender_row_by c b → (check ≡ Passed) × (isNew ≡ true)
+      go : (c : Check) (b : Bool) → check ≡ c → is_new ≡ b → lender_said Newer ≡ lender_row_by c b → (check ≡ Passed) × (is_new ≡ true)
       go Passed true p q h = (p, q)
       go Passed false p q h = absurd (let z : ◌≡◌ {A = ℕ} 2 5 = ap (λ (w : LenderRow). w.buffer) h in omega arith)
       go (Refused x) b p q h = absurd (told_not_done x (sym (ap (λ (w : LenderRow). w.told) h)))
 
-  pub standing-says : lender_said Standing ≡ lender_row N standing newer i → (check ≡ Passed) × (isNew ≡ false)
-  standing-says e = go check isNew refl refl e
+  pub standing_says : lender_said Standing ≡ lender_row N standing newer i → (check ≡ Passed) × (is_new ≡ false)
+  standing_says e = go check is_new refl refl e
     where
-      go : (c : Check) (b : Bool) → check ≡ c → isNew ≡ b → lender_said Standing ≡ lender_row_by c b → (check ≡ Passed) × (isNew ≡ false)
+      go : (c : Check) (b : Bool) → check ≡ c → is_new ≡ b → lender_said Standing ≡ lender_row_by c b → (check ≡ Passed) × (is_new ≡ false)
       go Passed true p q h = absurd (let z : ◌≡◌ {A = ℕ} 5 2 = ap (λ (w : LenderRow). w.buffer) h in omega arith)
       go Passed false p q h = (p, q)
       go (Refused x) b p q h = absurd (told_not_done x (sym (ap (λ (w : LenderRow). w.told) h)))
@@ -89,7 +89,7 @@ module _ (N : OnNetwork) (standing newer : List ℕ) (i : ℕ) where
   pub refused_says : (x : Refusal) → lender_said (LenderRefused x) ≡ lender_row N standing newer i → check ≡ Refused x
   refused_says x e = go check refl (ap (λ (w : LenderRow). w.told) e)
     where
-      go : (c : Check) → check ≡ c → told x ≡ (lender_row_by c isNew).told → check ≡ Refused x
+      go : (c : Check) → check ≡ c → told x ≡ (lender_row_by c is_new).told → check ≡ Refused x
       go Passed p h = absurd (told_not_done x h)
       go (Refused y) p h = p ∙ ap Refused (told_one y x (sym h))
 
@@ -113,34 +113,34 @@ module _ (N : OnNetwork) (standing newer : List ℕ) (i : ℕ) where
         node = node_passed 0 n i h.1.1.1.1.1.1.1.1.1.0;
       }
 
-  pub row-newer : lender_said Newer ≡ lender_row N standing newer i → row_part n i newer ≡ lent_row N standing newer i
-  row-newer e = let h = newer-says e in ap₂ (λ (c : Check) (b : Bool). if_passed c (cond b (row_part n i newer) (row_part n i standing)) []) (sym h.0) (sym h.1)
+  pub row_newer : lender_said Newer ≡ lender_row N standing newer i → row_part n i newer ≡ lent_row N standing newer i
+  row_newer e = let h = newer_says e in ap₂ (λ (c : Check) (b : Bool). if_passed c (cond b (row_part n i newer) (row_part n i standing)) []) (sym h.0) (sym h.1)
 
-  pub row-standing : lender_said Standing ≡ lender_row N standing newer i → row_part n i standing ≡ lent_row N standing newer i
-  row-standing e = let h = standing-says e in ap₂ (λ (c : Check) (b : Bool). if_passed c (cond b (row_part n i newer) (row_part n i standing)) []) (sym h.0) (sym h.1)
+  pub row_standing : lender_said Standing ≡ lender_row N standing newer i → row_part n i standing ≡ lent_row N standing newer i
+  row_standing e = let h = standing_says e in ap₂ (λ (c : Check) (b : Bool). if_passed c (cond b (row_part n i newer) (row_part n i standing)) []) (sym h.0) (sym h.1)
 
   pub row_refused : (x : Refusal) → lender_said (LenderRefused x) ≡ lender_row N standing newer i → [] ≡ lent_row N standing newer i
-  row_refused x e = ap (λ (c : Check). if_passed c (cond isNew (row_part n i newer) (row_part n i standing)) []) (sym (refused_says x e))
+  row_refused x e = ap (λ (c : Check). if_passed c (cond is_new (row_part n i newer) (row_part n i standing)) []) (sym (refused_says x e))
 
   -- ---- where it stands
 
   module _ (v w : ℕ × ℕ) where
-    pub start-newer : lender_said Newer ≡ lender_row N standing newer i → row_start n i w ≡ lent_start N standing newer i v w
-    start-newer e = let h = newer-says e in ap₂ (λ (c : Check) (b : Bool). if_passed c (cond b (row_start n i w) (row_start n i v)) v) (sym h.0) (sym h.1)
+    pub start_newer : lender_said Newer ≡ lender_row N standing newer i → row_start n i w ≡ lent_start N standing newer i v w
+    start_newer e = let h = newer_says e in ap₂ (λ (c : Check) (b : Bool). if_passed c (cond b (row_start n i w) (row_start n i v)) v) (sym h.0) (sym h.1)
 
-    pub start-standing : lender_said Standing ≡ lender_row N standing newer i → row_start n i v ≡ lent_start N standing newer i v w
-    start-standing e = let h = standing-says e in ap₂ (λ (c : Check) (b : Bool). if_passed c (cond b (row_start n i w) (row_start n i v)) v) (sym h.0) (sym h.1)
+    pub start_standing : lender_said Standing ≡ lender_row N standing newer i → row_start n i v ≡ lent_start N standing newer i v w
+    start_standing e = let h = standing_says e in ap₂ (λ (c : Check) (b : Bool). if_passed c (cond b (row_start n i w) (row_start n i v)) v) (sym h.0) (sym h.1)
 
-    pub start-refused : (x : Refusal) → lender_said (LenderRefused x) ≡ lender_row N standing newer i → v ≡ lent_start N standing newer i v w
-    start-refused x e = ap (λ (c : Check). if_passed c (cond isNew (row_start n i w) (row_start n i v)) v) (sym (refused_says x e))
+    pub start_refused : (x : Refusal) → lender_said (LenderRefused x) ≡ lender_row N standing newer i → v ≡ lent_start N standing newer i v w
+    start_refused x e = ap (λ (c : Check). if_passed c (cond is_new (row_start n i w) (row_start n i v)) v) (sym (refused_says x e))
 
   -- ---- the refusal
 
-  pub told-newer : lender_said Newer ≡ lender_row N standing newer i → answer_told Done ≡ check_told check
-  told-newer e = ap check_told (sym (newer-says e).0)
+  pub told_newer : lender_said Newer ≡ lender_row N standing newer i → answer_told Done ≡ check_told check
+  told_newer e = ap check_told (sym (newer_says e).0)
 
-  pub told-standing : lender_said Standing ≡ lender_row N standing newer i → answer_told Done ≡ check_told check
-  told-standing e = ap check_told (sym (standing-says e).0)
+  pub told_standing : lender_said Standing ≡ lender_row N standing newer i → answer_told Done ≡ check_told check
+  told_standing e = ap check_told (sym (standing_says e).0)
 
-  pub told-refused : (x : Refusal) → lender_said (LenderRefused x) ≡ lender_row N standing newer i → answer_told (NotDone x) ≡ check_told check
-  told-refused x e = ap check_told (sym (refused_says x e))
+  pub told_refused : (x : Refusal) → lender_said (LenderRefused x) ≡ lender_row N standing newer i → answer_told (NotDone x) ≡ check_told check
+  told_refused x e = ap check_told (sym (refused_says x e))

@@ -40,7 +40,7 @@ use Rattle.handovers.proofs.Tested.{call_lawful, net, entry_reads, only_best}
 use Rattle.refusals.specs.Cases.{checks_of}
 use Rattle.refusals.proofs.Cases.{done_check}
 use Rattle.refusals.specs.Checks.{if_passed}
-use Rattle.routes.proofs.Answers.{row_by}
+use Rattle.routes.proofs.Answers.{row_by_lem}
 use Rattle.histories.proofs.Exact.{steps_counted}
 use Rattle.guards.specs.OnNetwork.{OnNetwork, components, matrix_on, arcs_on}
 
@@ -115,7 +115,7 @@ module _ (N : OnNetwork) (r list : List ℕ) (limits : SmallLimits 65535 (compon
 
   -- a call that is done has passed its checks and done every step
   passed : steps_check N r list ≡ Passed
-  passed = (both_pass (steps_check N r list) (sum_check (count_of N r list) (length list)) ((done_check _).0 (sym (ap (λ (w : StepsRow). w.told) (row_by N r list refl)) ∙ d))).0
+  passed = (both_pass (steps_check N r list) (sum_check (count_of N r list) (length list)) ((done_check _).0 (sym (ap (λ (w : StepsRow). w.told) (row_by_lem N r list refl)) ∙ d))).0
 
   whole : done_of cs n A R steps ≡ length steps
   whole = sym (if_passed_lem (done_of cs n A R steps) 0 passed) ∙ (steps_counted N r list).whole d ∙ sym (length_steps list)

@@ -31,7 +31,7 @@ use Rattle.handovers.specs.Handovers.{SettlesOnly, settles, SettlesAll}
 use Rattle.handovers.proofs.Recipe.{settling_repairs}
 use Rattle.handovers.proofs.Lent.{settling_lends_new}
 use Rattle.refusals.specs.Cases.{checks_of}
-use Rattle.routes.proofs.Answers.{row_by, row_by}
+use Rattle.routes.proofs.Answers.{row_by_lem, row_by}
 use Rattle.guards.specs.OnNetwork.{OnNetwork, components, matrix_on, arcs_on}
 
 -- ---- settles alone
@@ -55,7 +55,7 @@ module _ (N : OnNetwork) (r : List ℕ) (p : equation_check N r ≡ Passed) wher
   -- A call with settles alone, in any order, at most 4,096, is done: from every matrix that passes the checks.
   pub settles_only_done : (list : List ℕ) → SettlesOnly n list → length list ≤ most_steps → steps_row N r list ≡ record { told = done; done = length list }
   settles_only_done list s h =
-      row_by N r list passes
+      row_by_lem N r list passes
       ∙ ap (λ (k : ℕ). row_by Passed k (length list)) (all_done (components N) n (arcs_on N) (matrix_on N r) list s)
       ∙ rw (le-ltb (length list) (length list) (omega arith))
     where

@@ -10,7 +10,7 @@ use Rattle.weights.specs.Sizes.{matrix_sum}
 use Rattle.weights.specs.Weights.{language}
 use Rattle.weights.specs.Languages.{count_case, limit_case, SmallLimits}
 use Rattle.matrices.specs.Buffers.{Formed}
-use Rattle.guards.specs.Checks.{first_settle, nodes_case, length_case, law_dCase, law_uCase, arcs_case}
+use Rattle.guards.specs.Checks.{first_settle, nodes_case, length_case, law_d_case, law_u_case, arcs_case}
 use Rattle.handover.specs.Calls.{handover_check, row_part, lent_row}
 use Rattle.guards.specs.OnNetwork.{OnNetwork, components, matrix_on, arcs_on}
 
@@ -44,8 +44,8 @@ pub record LawfulNetwork (N : OnNetwork) : Type 0 where
   pub count : (count_case N.language).check ≡ Passed
   pub sound : (limit_case N.language).check ≡ Passed
   pub long : (length_case 1 N.n N.arcs).check ≡ Passed
-  pub law_d_lem : (law_dCase (components N)).check ≡ Passed
-  pub law_u_lem : (law_uCase (components N)).check ≡ Passed
+  pub law_d_lem : (law_d_case (components N)).check ≡ Passed
+  pub law_u_lem : (law_u_case (components N)).check ≡ Passed
   pub arcs : (arcs_case (components N) N.n N.arcs).check ≡ Passed
   pub limits : SmallLimits 65535 (components N)
 

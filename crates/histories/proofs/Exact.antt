@@ -28,7 +28,7 @@ use Rattle.guards.proofs.Cases.{many_exact, list_exact}
 use Rattle.routes.specs.Stops.{StepOver, StopsAt}
 use Rattle.routes.specs.Calls.{step_of, step_fits, done_of, steps_cases, steps_check, count_of, sum_check, sum_case, running_cases, steps_row, StepsCounted}
 use Rattle.routes.proofs.Cases.{matrices_exact}
-use Rattle.routes.proofs.Answers.{row_by, row_by}
+use Rattle.routes.proofs.Answers.{row_by, row_by_lem}
 use Rattle.histories.proofs.Reached.{length_steps}
 use Rattle.histories.proofs.Over.{step_over, step_fits_lem}
 use Rattle.guards.specs.OnNetwork.{OnNetwork, components, matrix_on, arcs_on}
@@ -145,7 +145,7 @@ module _ (N : OnNetwork) (r list : List ℕ) where
 
   -- The steps done: all, or those before the one that is refused 11, or none.
   pub steps_counted : StepsCounted list (steps_row N r list)
-  steps_counted = subst (StepsCounted list) (sym (row_by N r list refl)) (record {
+  steps_counted = subst (StepsCounted list) (sym (row_by_lem N r list refl)) (record {
     whole = row_whole (steps_check N r list) count (length list) (subst (λ (m : ℕ). count ≤ m) (length_steps list) (done_most (components N) n (arcs_on N) (matrix_on N r) (map step_of list)));
     stopped = λ k. row_stopped (steps_check N r list) count (length list) k (λ e. never_due (steps_cases N r list) (Sum 0 k) (λ p. refl) ((refuses_exactly (steps_cases N r list) steps_exact (Sum 0 k)).0 e));
     refused = row_refused (steps_check N r list) count (length list);

@@ -32,7 +32,7 @@ use Rattle.matrices.specs.Buffers.{matrix_words, Formed}
 use Rattle.matrices.specs.Steps.{Matrix}
 use Rattle.matrices.proofs.Entries.{matrix_cong, length_matrix}
 use Rattle.matrices.proofs.Malformed.{check_formed, formed_check}
-use Rattle.guards.specs.Checks.{first_settle, most_steps, nodes_case, length_case, law_dCase, law_uCase, many_case, list_case}
+use Rattle.guards.specs.Checks.{first_settle, most_steps, nodes_case, length_case, law_d_case, law_u_case, many_case, list_case}
 use Rattle.routes.specs.Calls.{fresh_left, step_of, run_of, done_of, steps_check, StepsRow, steps_row, steps_left, equation_cases}
 use Rattle.routes.specs.Ready.{AllSteps}
 use Rattle.histories.specs.History.{added_by, after_calls, so_far, HistoryBegun, held, ran, HistoryDemand3}
@@ -42,7 +42,7 @@ use Rattle.routes.proofs.Lists.{all_in, list_passed, passed_list, all_front, all
 use Rattle.histories.proofs.Reached.{length_steps, network, reached_formed, reached_reads, runs_on}
 use Rattle.refusals.specs.declared.Refusal.TheVariants.{Law}
 use Rattle.refusals.specs.Cases.{checks_of, check_of}
-use Rattle.routes.proofs.Answers.{row_by, row_by}
+use Rattle.routes.proofs.Answers.{row_by_lem, row_by}
 use Rattle.guards.specs.OnNetwork.{OnNetwork, components, matrix_on, arcs_on}
 
 -- ---- lists
@@ -69,8 +69,8 @@ module _ (N : OnNetwork) (r : List ℕ) (b : HistoryBegun N r) where
   A = arcs_on N
 
   -- what the fresh call's checks and the checks of A give
-  abbrev passes : ((nodes_case n).check ≡ Passed) × (((count_case N.language).check ≡ Passed) × (((limit_case N.language).check ≡ Passed) × (((length_case 2 n r).check ≡ Passed) × (((law_dCase cs).check ≡ Passed) × (((law_uCase cs).check ≡ Passed) × Unit {0})))))
-  passes = first_passes ((nodes_case n).check ∷ (count_case N.language).check ∷ (limit_case N.language).check ∷ (length_case 2 n r).check ∷ (law_dCase cs).check ∷ (law_uCase cs).check ∷ []) b.fresh_done
+  abbrev passes : ((nodes_case n).check ≡ Passed) × (((count_case N.language).check ≡ Passed) × (((limit_case N.language).check ≡ Passed) × (((length_case 2 n r).check ≡ Passed) × (((law_d_case cs).check ≡ Passed) × (((law_u_case cs).check ≡ Passed) × Unit {0})))))
+  passes = first_passes ((nodes_case n).check ∷ (count_case N.language).check ∷ (limit_case N.language).check ∷ (length_case 2 n r).check ∷ (law_d_case cs).check ∷ (law_u_case cs).check ∷ []) b.fresh_done
 
   D : test_d cs ≡ true
   D = unless_passes (test_d cs) (Law 1 0) passes.1.1.1.1.0
@@ -118,7 +118,7 @@ module _ (N : OnNetwork) (r : List ℕ) (b : HistoryBegun N r) where
 
       done_row : steps_row N (mw xs) list ≡ record { told = done; done = length list }
       done_row =
-          row_by N (mw xs) list e
+          row_by_lem N (mw xs) list e
           ∙ ap (λ (k : ℕ). row_by Passed k (length list)) (runs.0 ∙ length_steps list)
           ∙ rw (le-ltb (length list) (length list) (omega arith))
 
@@ -130,7 +130,7 @@ module _ (N : OnNetwork) (r : List ℕ) (b : HistoryBegun N r) where
       refused_left = ap (λ (c : Check). if_passed c (matrix_words n (run_of cs n A (matrix_on N (mw xs)) (map step_of list))) (mw xs)) e
 
       refused_added : added_by N (mw xs) list ≡ []
-      refused_added = ap (λ (w : StepsRow). cond (eqb w.told.number 0) list []) (row_by N (mw xs) list e) ∙ rw (number_some x)
+      refused_added = ap (λ (w : StepsRow). cond (eqb w.told.number 0) list []) (row_by_lem N (mw xs) list e) ∙ rw (number_some x)
 
     -- either way
     call : steps_left N (mw xs) list ≡ mw (xs ++ added_by N (mw xs) list)

@@ -36,7 +36,7 @@ use Rattle.histories.proofs.Over.{step_over, step_fits_lem}
 use Rattle.histories.proofs.Exact.{stops_exactly, steps_sum}
 use Rattle.routes.specs.Stops.{StopsAt}
 use Rattle.refusals.specs.Cases.{Case, checks_of}
-use Rattle.routes.proofs.Answers.{row_by, row_by}
+use Rattle.routes.proofs.Answers.{row_by_lem, row_by}
 use Rattle.guards.specs.OnNetwork.{OnNetwork, components, matrix_on, arcs_on}
 
 -- a well-formed buffer is the words of the matrix that it holds
@@ -115,7 +115,7 @@ module _ (N : OnNetwork) (r list : List ℕ) (k : ℕ) (e : (steps_row N r list)
   pub first_done : steps_row N r (take k list) ≡ record { told = done; done = k }
   first_done =
       let len : length (take k list) ≡ k = length-take-le k list (omega (arith, below)) in
-      row_by N r (take k list) front
+      row_by_lem N r (take k list) front
       ∙ ap (λ (m : ℕ). row_by Passed (done_of cs n A R (map step_of (take k list))) m) len
       ∙ ap (λ (m : ℕ). row_by Passed m k) (ap (done_of cs n A R) (map_take k list) ∙ stops_done cs n A R k (map step_of list) stops)
       ∙ rw (le-ltb k k (omega arith))

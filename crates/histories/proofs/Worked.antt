@@ -8,7 +8,7 @@ use Rattle.weights.specs.declared.Language.{Language}
 use Rattle.routes.specs.Calls.{steps_row}
 use Rattle.histories.specs.History.{HistoryBegun, held}
 use Rattle.histories.proofs.Histories.{history_demand_3}
-use Rattle.routes.proofs.Answers.{row_by}
+use Rattle.routes.proofs.Answers.{row_by_lem}
 use Rattle.guards.specs.OnNetwork.{on_network}
 
 -- step 15 with n = 16 runs, step 16 is refused
@@ -17,5 +17,5 @@ pub P9 : (l : Language) (a r : List ℕ) → HistoryBegun (on_network l 16 a) r
 P9 l a r b =
     let h = history_demand_3 (on_network l 16 a) r b [] in (
       h.whole (15 ∷ []) (h.refuses (15 ∷ [])),
-      row_by (on_network l 16 a) (held (on_network l 16 a) r []) (16 ∷ []) (h.refuses (16 ∷ [])),
+      row_by_lem (on_network l 16 a) (held (on_network l 16 a) r []) (16 ∷ []) (h.refuses (16 ∷ [])),
     )

@@ -38,24 +38,24 @@ use Rattle.guards.specs.Entrance.{Placed}
 
 -- ---- in the places and in the language
 
-lowest-cong : (t u : ℕ → Bool) (k c : ℕ) → ((m : ℕ) → m < k + c → t m ≡ u m) → lowest_from t k c ≡ lowest_from u k c
+lowest_cong : (t u : ℕ → Bool) (k c : ℕ) → ((m : ℕ) → m < k + c → t m ≡ u m) → lowest_from t k c ≡ lowest_from u k c
 unfolding lowest_from
-lowest-cong t u k zero e = refl
-lowest-cong t u k (suc c) e = ap₂ (λ (b : Bool) (o : Option ℕ). cond b (some k) o) (e k (omega arith)) (lowest-cong t u (suc k) c (λ m h. e m (omega arith)))
+lowest_cong t u k zero e = refl
+lowest_cong t u k (suc c) e = ap₂ (λ (b : Bool) (o : Option ℕ). cond b (some k) o) (e k (omega arith)) (lowest_cong t u (suc k) c (λ m h. e m (omega arith)))
 
 module _ (cs : List Component) (p : Places) (h : length cs ≤ places) (placed : places_of p ≡ padded places cs) (sound : Sound cs) (n : ℕ) (A B R S : Matrix)
     (arcs : GoesTo (language cs) (language (places_of p)) (Valid cs) (pad_weight places) n A B) (routes : GoesTo (language cs) (language (places_of p)) (Valid cs) (pad_weight places) n R S) where
-  same-go : {v w x y : Weight} → Goes (language cs) (language (places_of p)) (Valid cs) (pad_weight places) v x → Goes (language cs) (language (places_of p)) (Valid cs) (pad_weight places) w y → same x y ≡ same v w
-  same-go {v} {w} f g = sym (ap₂ same f.to g.to) ∙ same_padded cs v w h f.kind g.kind
+  same_go : {v w x y : Weight} → Goes (language cs) (language (places_of p)) (Valid cs) (pad_weight places) v x → Goes (language cs) (language (places_of p)) (Valid cs) (pad_weight places) w y → same x y ≡ same v w
+  same_go {v} {w} f g = sym (ap₂ same f.to g.to) ∙ same_padded cs v w h f.kind g.kind
 
-  test-goes : (i j k : ℕ) → i < n → j < n → k < n → is_hop (places_of p) B S i j k ≡ is_hop cs A R i j k
-  test-goes i j k hi hj hk =
-      ap (λ (b : Bool). not (eqb k i) && b) (same-go (join_goes (language cs) (language (places_of p)) (Valid cs) (pad_weight places) (embedded cs p h placed sound n []) (arcs i k hi hk) (routes k j hk hj)) (routes i j hi hj))
+  test_goes : (i j k : ℕ) → i < n → j < n → k < n → is_hop (places_of p) B S i j k ≡ is_hop cs A R i j k
+  test_goes i j k hi hj hk =
+      ap (λ (b : Bool). not (eqb k i) && b) (same_go (join_goes (language cs) (language (places_of p)) (Valid cs) (pad_weight places) (embedded cs p h placed sound n []) (arcs i k hi hk) (routes k j hk hj)) (routes i j hi hj))
 
-  pub hop-goes : (i j : ℕ) → i < n → j < n → hop_of (places_of p) n B S i j ≡ hop_of cs n A R i j
-  hop-goes i j hi hj =
-      ap₂ (λ (b : Bool) (o : Option ℕ). cond (eqb i j || b) nothing o) (same-go (routes i j hi hj) (record { kind = tt; to = refl }))
-      (lowest-cong _ _ 0 n (λ k hk. test-goes i j k hi hj (omega arith)))
+  pub hop_goes : (i j : ℕ) → i < n → j < n → hop_of (places_of p) n B S i j ≡ hop_of cs n A R i j
+  hop_goes i j hi hj =
+      ap₂ (λ (b : Bool) (o : Option ℕ). cond (eqb i j || b) nothing o) (same_go (routes i j hi hj) (record { kind = tt; to = refl }))
+      (lowest_cong _ _ 0 n (λ k hk. test_goes i j k hi hj (omega arith)))
 
 -- ---- the call
 
@@ -72,27 +72,27 @@ module _ (N : OnNetwork) (r : List ℕ) (i j : ℕ) where
   abbrev rule : Option ℕ
   rule = hop_of (components N) n (arcs_on N) (matrix_on N r) i j
 
-  by-check : (c : Check) → hop_check N r i j ≡ c → hop_row_by c rule ≡ hop_row N r i j
-  by-check c e = ap (λ (c : Check). hop_row_by c rule) (sym e)
+  by_check : (c : Check) → hop_check N r i j ≡ c → hop_row_by c rule ≡ hop_row N r i j
+  by_check c e = ap (λ (c : Check). hop_row_by c rule) (sym e)
 
-  pub refused-before : (x : Refusal) → equation_check N r ≡ Refused x → hop_said (HopRefused x) ≡ hop_row N r i j
-  refused-before x e = by-check (Refused x) (rest_stops N r pair e)
+  pub refused_before : (x : Refusal) → equation_check N r ≡ Refused x → hop_said (HopRefused x) ≡ hop_row N r i j
+  refused_before x e = by_check (Refused x) (rest_stops N r pair e)
 
   module _ (e : equation_check N r ≡ Passed) {first second both : Check} (qi : first ≡ (node_case 0 n i).check) (qj : second ≡ (node_case 1 n j).check) (q : both ≡ or_else first second) where
-    pair-first : {c : Check} → both ≡ c → hop_check N r i j ≡ c
-    pair-first h = rest_goes_on N r pair e (sym (two_checks (node_case 0 n i).check (node_case 1 n j).check qi qj) ∙ sym q ∙ h)
+    pair_first : {c : Check} → both ≡ c → hop_check N r i j ≡ c
+    pair_first h = rest_goes_on N r pair e (sym (two_checks (node_case 0 n i).check (node_case 1 n j).check qi qj) ∙ sym q ∙ h)
 
-    pub pair-refused : (x : Refusal) → both ≡ Refused x → hop_said (HopRefused x) ≡ hop_row N r i j
-    pair-refused x h = by-check (Refused x) (pair-first h)
+    pub pair_refused : (x : Refusal) → both ≡ Refused x → hop_said (HopRefused x) ≡ hop_row N r i j
+    pair_refused x h = by_check (Refused x) (pair_first h)
 
     module _ (p : Places) (o : Placed N.language p) (g : Given (places_of p) n arcs r) (passed : both ≡ Passed) where
-      pub pair-in : (i < n) × (j < n)
-      pair-in = let h = both_pass first second (sym q ∙ passed) in (node_passed 0 n i (sym qi ∙ h.0), node_passed 1 n j (sym qj ∙ h.1))
+      pub pair_in : (i < n) × (j < n)
+      pair_in = let h = both_pass first second (sym q ∙ passed) in (node_passed 0 n i (sym qi ∙ h.0), node_passed 1 n j (sym qj ∙ h.1))
 
       -- what the search found is the answer's node
-      pub found-row : (f : HopFound) → found_at f ≡ hop_of (places_of p) n (matrix_in places n arcs) (matrix_in places n r) i j → hop_row_by Passed (found_at f) ≡ hop_row N r i j
-      found-row f found =
+      pub found_row : (f : HopFound) → found_at f ≡ hop_of (places_of p) n (matrix_in places n arcs) (matrix_in places n r) i j → hop_row_by Passed (found_at f) ≡ hop_row N r i j
+      found_row f found =
           let s = placed_sound N.language p o in
-          ap (hop_row_by Passed) (found ∙ hop-goes (components N) p (few N.language) o.placed s n (arcs_on N) (matrix_in places n arcs) (matrix_on N r) (matrix_in places n r)
-          (buffer_goes (components N) p (few N.language) o.placed s n arcs arc_sum arcs g.arcs) (buffer_goes (components N) p (few N.language) o.placed s n arcs matrix_sum r g.routes) i j pair-in.0 pair-in.1)
-          ∙ by-check Passed (pair-first passed)
+          ap (hop_row_by Passed) (found ∙ hop_goes (components N) p (few N.language) o.placed s n (arcs_on N) (matrix_in places n arcs) (matrix_on N r) (matrix_in places n r)
+          (buffer_goes (components N) p (few N.language) o.placed s n arcs arc_sum arcs g.arcs) (buffer_goes (components N) p (few N.language) o.placed s n arcs matrix_sum r g.routes) i j pair_in.0 pair_in.1)
+          ∙ by_check Passed (pair_first passed)

@@ -14,7 +14,7 @@ use Rattle.weights.specs.Weights.{Weight, Valid, better, language}
 use Rattle.weights.proofs.Languages.{ordered}
 use Rattle.modes.specs.declared.Mode.{Mode}
 use Rattle.modes.specs.declared.Mode.TheVariants.{Plain, Hot, Cold}
-use Rattle.modes.specs.Entries.{Comparing, first_then, by_weight, by_weight_then_t, by_tThen_weight, comparing, ValidT}
+use Rattle.modes.specs.Entries.{Comparing, first_then, by_weight, by_weight_then_t, by_t_then_weight, comparing, ValidT}
 
 -- ---- one order, then another
 
@@ -104,7 +104,7 @@ module _ (allowed : ℕ → Type 0) (cs : List Component) where
     }
 
     -- for every order on t
-    pub t_then_weight_orderly : Orderly allowed cs (by_tThen_weight better_t cs)
+    pub t_then_weight_orderly : Orderly allowed cs (by_t_then_weight better_t cs)
     t_then_weight_orderly = record {
       self = λ x t vx vt. lex_self (numbers allowed better_t) (order (language cs)) 𝓣 (ordered cs) t x vt vx;
       chain = λ x t y u z v vx vt vy vu vz vv. lex_chain (numbers allowed better_t) (order (language cs)) 𝓣 (ordered cs) t x u y v z vt vx vu vy vv vz;

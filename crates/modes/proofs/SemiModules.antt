@@ -20,7 +20,7 @@ use Rattle.weights.proofs.Decided.{c_holds}
 use Rattle.weights.proofs.Languages.{lawful}
 use Rattle.modes.specs.declared.Mode.{Mode}
 use Rattle.modes.specs.declared.Mode.TheVariants.{Plain, Hot, Cold}
-use Rattle.modes.specs.Entries.{Entry, empty, mapped, Comparing, by_weight, by_weight_then_t, by_tThen_weight, comparing, better_entry, with_t, applied, ValidT, ValidEntry, mode_by, mode_of, needs_c}
+use Rattle.modes.specs.Entries.{Entry, empty, mapped, Comparing, by_weight, by_weight_then_t, by_t_then_weight, comparing, better_entry, with_t, applied, ValidT, ValidEntry, mode_by, mode_of, needs_c}
 use Rattle.modes.proofs.Comparisons.{then_split, then_make, numbers, smaller_ordered, Orderly, weight_orderly, weight_then_t_orderly, t_then_weight_orderly}
 
 -- ---- entries
@@ -97,7 +97,7 @@ module _ (allowed : ℕ → Type 0) (cs : List Component) (𝓛 : Lawful (langua
             (λ h. b (subst (λ (z : Weight). better cs x z ≡ false) (law s x y vs vx vy (𝓛.ordered.antisym (join cs s x) (join cs s y) (𝓛.join_valid s x vs vx) (𝓛.join_valid s y vs vy) d h) tt) (𝓛.ordered.self x vx)))
 
     -- t, then the weight: for every order on t
-    pub t_then_weight_suited : Suited allowed cs (by_tThen_weight better_t cs)
+    pub t_then_weight_suited : Suited allowed cs (by_t_then_weight better_t cs)
     t_then_weight_suited = record {
       orderly = t_then_weight_orderly allowed cs better_t 𝓣;
       one_t = λ x y t vx vy vt e. then_make (better_t t t) (better_t t t) (better cs y x) (𝓣.self t vt) (λ h. e);
@@ -164,8 +164,8 @@ module _ (allowed : ℕ → Type 0) (cs : List Component) (𝓛 : Lawful (langua
 -- ---- the modes
 
 -- An order on t followed by the weight, from D and U: cold, and every other such mode.
-pub t_first_mode : (allowed : ℕ → Type 0) (better_t : ℕ → ℕ → Bool) → Ordered (numbers allowed better_t) → (cs : List Component) → Lawful (language cs) → SemiModule (language cs) (mode_by allowed cs (by_tThen_weight better_t cs))
-t_first_mode allowed better_t 𝓣 cs 𝓛 = suited_mode allowed cs 𝓛 (by_tThen_weight better_t cs) (t_then_weight_suited allowed cs 𝓛 better_t 𝓣)
+pub t_first_mode : (allowed : ℕ → Type 0) (better_t : ℕ → ℕ → Bool) → Ordered (numbers allowed better_t) → (cs : List Component) → Lawful (language cs) → SemiModule (language cs) (mode_by allowed cs (by_t_then_weight better_t cs))
+t_first_mode allowed better_t 𝓣 cs 𝓛 = suited_mode allowed cs 𝓛 (by_t_then_weight better_t cs) (t_then_weight_suited allowed cs 𝓛 better_t 𝓣)
 
 pub plain_mode : (cs : List Component) → Lawful (language cs) → SemiModule (language cs) (mode_of Plain cs)
 plain_mode cs 𝓛 = suited_mode (ValidT Plain) cs 𝓛 (comparing Plain cs) (weight_suited (ValidT Plain) cs 𝓛 (λ t u p q. omega arith))

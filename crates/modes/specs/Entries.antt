@@ -40,14 +40,14 @@ abbrev pub by_weight_then_t : (ℕ → ℕ → Bool) → List Component → Comp
 by_weight_then_t better_t cs x t y u = first_then (better cs x y) (better cs y x) (better_t t u)
 
 -- an order on t, then the weight
-abbrev pub by_tThen_weight : (ℕ → ℕ → Bool) → List Component → Comparing
-by_tThen_weight better_t cs x t y u = first_then (better_t t u) (better_t u t) (better cs x y)
+abbrev pub by_t_then_weight : (ℕ → ℕ → Bool) → List Component → Comparing
+by_t_then_weight better_t cs x t y u = first_then (better_t t u) (better_t u t) (better cs x y)
 
 -- Mode 1, plain, compares weights; mode 2, hot, weight then smaller t; mode 3, cold, smaller t then weight.
 abbrev pub comparing : Mode → List Component → Comparing
 comparing Plain cs = by_weight cs
 comparing Hot cs = by_weight_then_t ltb cs
-comparing Cold cs = by_tThen_weight ltb cs
+comparing Cold cs = by_t_then_weight ltb cs
 
 -- ---- entries
 

@@ -3,7 +3,7 @@ ghost use Rattle.std.specs.Prelude.{◌≡◌, ltb};
 ghost use Rattle.algebra.specs.Order.{pick};
 ghost use Rattle.weights.specs.Languages.{places_of};
 ghost use Rattle.weights.specs.Values.{weight_of};
-ghost use Rattle.modes.specs.Entries.{entry_of, by_weight_then_t, by_tThen_weight, comparing, better_entry, mode_of};
+ghost use Rattle.modes.specs.Entries.{entry_of, by_weight_then_t, by_t_then_weight, comparing, better_entry, mode_of};
 
 use super::{Entry, Mode};
 use weights::{Comparison, Places, Weight};
@@ -22,7 +22,7 @@ fn better_hot(p: Places, x: Weight, t: u32, y: Weight, u: u32) -> bool
 
 // By the smaller t, then weight.
 fn better_cold(p: Places, x: Weight, t: u32, y: Weight, u: u32) -> bool
-    ensures { result ≡ by_tThen_weight ltb (places_of p) (weight_of x) t (weight_of y) u }
+    ensures { result ≡ by_t_then_weight ltb (places_of p) (weight_of x) t (weight_of y) u }
 {
     if t != u {
         return t < u;

@@ -54,21 +54,21 @@ row_by c k m = record { told = check_told (or_else c (sum_check k m)); done = if
 module _ (N : OnNetwork) (r list : List ℕ) where
   open N use {n, arcs}
 
-  pub row_by : {c : Check} → steps_check N r list ≡ c → steps_row N r list ≡ row_by c (count_of N r list) (length list)
-  row_by e =
+  pub row_by_lem : {c : Check} → steps_check N r list ≡ c → steps_row N r list ≡ row_by c (count_of N r list) (length list)
+  row_by_lem e =
       ap (λ (c : Check). record { told = check_told c; done = if_passed (steps_check N r list) (count_of N r list) 0 })
       (check_append (steps_cases N r list) (sum_case N r list ∷ []) ∙ ap (or_else (steps_check N r list)) (or_passed (sum_case N r list).check))
       ∙ ap (λ (c : Check). row_by c (count_of N r list) (length list)) e
 
   refused : (x : Refusal) → steps_check N r list ≡ Refused x → (steps_said (StepsRefused x 0) ≡ steps_row N r list) × (r ≡ steps_left N r list)
-  refused x e = (sym (row_by e), sym (if_refused (matrix_words n (ran_of N r list)) r e))
+  refused x e = (sym (row_by_lem e), sym (if_refused (matrix_words n (ran_of N r list)) r e))
 
-  pub steps-refused : (x : Refusal) → equation_check N r ≡ Refused x → (steps_said (StepsRefused x 0) ≡ steps_row N r list) × (r ≡ steps_left N r list)
-  steps-refused x e = refused x (rest_stops N r (many_case list ∷ list_case n list ∷ []) e)
+  pub steps_refused : (x : Refusal) → equation_check N r ≡ Refused x → (steps_said (StepsRefused x 0) ≡ steps_row N r list) × (r ≡ steps_left N r list)
+  steps_refused x e = refused x (rest_stops N r (many_case list ∷ list_case n list ∷ []) e)
 
   module _ (p : Places) (e : equation_check N r ≡ Passed) where
-    pub list-refused : (x : Refusal) → first_of ((many_case list).check ∷ (list_case n list).check ∷ []) ≡ Refused x → (steps_said (StepsRefused x 0) ≡ steps_row N r list) × (r ≡ steps_left N r list)
-    list-refused x q = refused x (rest_goes_on N r (many_case list ∷ list_case n list ∷ []) e q)
+    pub list_refused : (x : Refusal) → first_of ((many_case list).check ∷ (list_case n list).check ∷ []) ≡ Refused x → (steps_said (StepsRefused x 0) ≡ steps_row N r list) × (r ≡ steps_left N r list)
+    list_refused x q = refused x (rest_goes_on N r (many_case list ∷ list_case n list ∷ []) e q)
 
     module _ (o : Placed N.language p) (g : Given (places_of p) n arcs r) (q : first_of ((many_case list).check ∷ (list_case n list).check ∷ []) ≡ Passed) (k : ℕ) (left : List ℕ)
         (ek : k ≡ run_done (places_of p) n arcs r (map step_of list)) (el : left ≡ run_left (places_of p) n arcs r (map step_of list)) where
@@ -84,36 +84,36 @@ module _ (N : OnNetwork) (r list : List ℕ) where
       stands = el ∙ bridged.1 ∙ sym (if_passed_lem (matrix_words n (ran_of N r list)) r passes)
 
       row : row_by Passed k (length list) ≡ steps_row N r list
-      row = ap (λ (m : ℕ). row_by Passed m (length list)) (ek ∙ bridged.0) ∙ sym (row_by passes)
+      row = ap (λ (m : ℕ). row_by Passed m (length list)) (ek ∙ bridged.0) ∙ sym (row_by_lem passes)
 
-      pub steps-stopped : k < length list → (steps_said (StepsRefused (Sum 0 k) k) ≡ steps_row N r list) × (left ≡ steps_left N r list)
-      steps-stopped h = ((rw (lt-ltb k (length list) h) at row), stands)
+      pub steps_stopped : k < length list → (steps_said (StepsRefused (Sum 0 k) k) ≡ steps_row N r list) × (left ≡ steps_left N r list)
+      steps_stopped h = ((rw (lt-ltb k (length list) h) at row), stands)
 
-      pub steps-done : length list ≤ k → (steps_said (Done k) ≡ steps_row N r list) × (left ≡ steps_left N r list)
-      steps-done h = ((rw (le-ltb k (length list) h) at row), stands)
+      pub steps_done : length list ≤ k → (steps_said (Done k) ≡ steps_row N r list) × (left ≡ steps_left N r list)
+      steps_done h = ((rw (le-ltb k (length list) h) at row), stands)
 
 -- ---- equation
 
 -- the row by what the checks give
-abbrev yesBy : Check → Bool → EquationRow
-yesBy c b = record { told = check_told c; yes = if_passed c b false }
+abbrev yes_by : Check → Bool → EquationRow
+yes_by c b = record { told = check_told c; yes = if_passed c b false }
 
 module _ (N : OnNetwork) (r : List ℕ) where
   open N use {n, arcs}
 
   pub equation_refused : (x : Refusal) → equation_check N r ≡ Refused x → equation_said (EquationRefused x) ≡ equation_row N r
-  equation_refused x e = ap (λ (c : Check). yesBy c (solves (components N) n (arcs_on N) (matrix_on N r))) (sym e)
+  equation_refused x e = ap (λ (c : Check). yes_by c (solves (components N) n (arcs_on N) (matrix_on N r))) (sym e)
 
   module _ (p : Places) (e : equation_check N r ≡ Passed) (o : Placed N.language p) (g : Given (places_of p) n arcs r) {b : Bool} (q : b ≡ solves (places_of p) n (matrix_in places n arcs) (matrix_in places n r)) where
-    told-by : yesBy Passed b ≡ equation_row N r
-    told-by =
-        ap (yesBy Passed) (q ∙ solves_go (components N) p (few N.language) o.placed (placed_sound N.language p o) n arcs (arcs_on N) (matrix_in places n arcs)
+    told_by : yes_by Passed b ≡ equation_row N r
+    told_by =
+        ap (yes_by Passed) (q ∙ solves_go (components N) p (few N.language) o.placed (placed_sound N.language p o) n arcs (arcs_on N) (matrix_in places n arcs)
         (buffer_goes (components N) p (few N.language) o.placed (placed_sound N.language p o) n arcs arc_sum arcs g.arcs) (matrix_on N r) (matrix_in places n r)
         (buffer_goes (components N) p (few N.language) o.placed (placed_sound N.language p o) n arcs matrix_sum r g.routes))
-        ∙ ap (λ (c : Check). yesBy c (solves (components N) n (arcs_on N) (matrix_on N r))) (sym e)
+        ∙ ap (λ (c : Check). yes_by c (solves (components N) n (arcs_on N) (matrix_on N r))) (sym e)
 
-    pub equation-yes : b ≡ true → equation_said Yes ≡ equation_row N r
-    equation-yes t = ap (yesBy Passed) (sym t) ∙ told-by
+    pub equation_yes : b ≡ true → equation_said Yes ≡ equation_row N r
+    equation_yes t = ap (yes_by Passed) (sym t) ∙ told_by
 
-    pub equation-no : b ≡ false → equation_said No ≡ equation_row N r
-    equation-no t = ap (yesBy Passed) (sym t) ∙ told-by
+    pub equation_no : b ≡ false → equation_said No ≡ equation_row N r
+    equation_no t = ap (yes_by Passed) (sym t) ∙ told_by

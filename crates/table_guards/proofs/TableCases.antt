@@ -30,7 +30,7 @@ use Rattle.modes.specs.declared.Chosen.{Chosen}
 use Rattle.modes.specs.declared.Chosen.TheVariants.{Fits, Unfit}
 use Rattle.modes.specs.Entries.{mode_for, needs_c}
 use Rattle.tables.proofs.MalformedEntries.{table_exact}
-use Rattle.table_guards.specs.Checks.{most_destinations, ModeFits, chosen_check, chosen_mode, mode_case, destinations_case, table_length_case, law_cCase, mapping_case, solves_case}
+use Rattle.table_guards.specs.Checks.{most_destinations, ModeFits, chosen_check, chosen_mode, mode_case, destinations_case, table_length_case, law_c_case, mapping_case, solves_case}
 use Rattle.refusals.specs.declared.Refusal.{Refusal}
 
 pub destinations_exact : (m : ℕ) → Exact (destinations_case m)
@@ -117,10 +117,10 @@ module _ (cs : List Component) (m number : ℕ) where
       back : number ≡ 2 → needs_c mode ≡ true
       back q = subst (λ (k : ℕ). needs_c (chosen_mode (mode_for cs m k)) ≡ true) (sym q) (fits (leb 1 m) (subst (λ (k : ℕ). (mode_case cs m k).check ≡ Passed) q h))
 
-  law_c_refuses : Sound cs → (mode_case cs m number).check ≡ Passed → (x : Refusal) → ((law_cCase number mode cs).check ≡ Refused x) ↔ DueIn (law_cCase number mode cs) x
+  law_c_refuses : Sound cs → (mode_case cs m number).check ≡ Passed → (x : Refusal) → ((law_c_case number mode cs).check ≡ Refused x) ↔ DueIn (law_c_case number mode cs) x
   law_c_refuses sound fits x = (λ e. let h = unless_refuses (not (needs_c mode) || test_c cs) (Law 3 0) x e in there (needs_c mode) refl (test_c cs) refl h.0 h.1, back)
     where
-      there : (b : Bool) → needs_c mode ≡ b → (c : Bool) → test_c cs ≡ c → (not b || c) ≡ false → Law 3 0 ≡ x → DueIn (law_cCase number mode cs) x
+      there : (b : Bool) → needs_c mode ≡ b → (c : Bool) → test_c cs ≡ c → (not b || c) ≡ false → Law 3 0 ≡ x → DueIn (law_c_case number mode cs) x
       there true p true q e z = absurd (false≢true (sym e))
       there true p false q e z = (0, sym z, (refl, (hot_is_two fits).0 p, λ law. clash (test_c cs) ((c_exact cs sound).1 law) q))
       there false p c q e z = absurd (false≢true (sym e))
@@ -129,8 +129,8 @@ module _ (cs : List Component) (m number : ℕ) where
       refuse true q p g = absurd (g ((c_exact cs sound).0 q))
       refuse false q p g = rw ((hot_is_two fits).1 p, q)
 
-      back : DueIn (law_cCase number mode cs) x → unless (not (needs_c mode) || test_c cs) (Law 3 0) ≡ Refused x
+      back : DueIn (law_c_case number mode cs) x → unless (not (needs_c mode) || test_c cs) (Law 3 0) ≡ Refused x
       back (place, q, (z, p, g)) = refuse (test_c cs) refl p g ∙ ap Refused (sym (q ∙ ap (Law 3) z))
 
-  pub law_c_exact : Sound cs → (mode_case cs m number).check ≡ Passed → Exact (law_cCase number mode cs)
+  pub law_c_exact : Sound cs → (mode_case cs m number).check ≡ Passed → Exact (law_c_case number mode cs)
   law_c_exact sound fits = record { refuses = law_c_refuses sound fits }

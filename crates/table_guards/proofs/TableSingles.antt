@@ -17,7 +17,7 @@ use Rattle.weights.specs.Laws.{test_c}
 use Rattle.modes.specs.declared.Mode.{Mode}
 use Rattle.modes.specs.Entries.{needs_c}
 use Rattle.tables.specs.Tables.{Sized}
-use Rattle.table_guards.specs.Checks.{most_destinations, destinations_case, table_length_case, law_cCheck, table_length_measured}
+use Rattle.table_guards.specs.Checks.{most_destinations, destinations_case, table_length_case, law_c_check, table_length_measured}
 use Rattle.refusals.specs.declared.Check.{Check}
 use Rattle.guards.specs.Checks.{most_nodes}
 
@@ -60,13 +60,13 @@ table_length_passed which n m s h k e = record {
   long = eqb-true (length s) (n * (m * entry_words)) (unless_passes (eqb (length s) (n * (m * entry_words))) (Length which 0) e);
 }
 
-pub law_c_free : (mode : Mode) (cs : List Component) → needs_c mode ≡ false → Passed ≡ law_cCheck mode cs
+pub law_c_free : (mode : Mode) (cs : List Component) → needs_c mode ≡ false → Passed ≡ law_c_check mode cs
 law_c_free mode cs e = rw e
 
-pub law_c_tested : (mode : Mode) (cs : List Component) (b : Bool) → needs_c mode ≡ true → test_c cs ≡ b → unless b (Law 3 0) ≡ law_cCheck mode cs
+pub law_c_tested : (mode : Mode) (cs : List Component) (b : Bool) → needs_c mode ≡ true → test_c cs ≡ b → unless b (Law 3 0) ≡ law_c_check mode cs
 law_c_tested mode cs b e f = rw (e, f)
 
-pub law_c_passed : (mode : Mode) (cs : List Component) → law_cCheck mode cs ≡ Passed → needs_c mode ≡ true → test_c cs ≡ true
+pub law_c_passed : (mode : Mode) (cs : List Component) → law_c_check mode cs ≡ Passed → needs_c mode ≡ true → test_c cs ≡ true
 law_c_passed mode cs e h = go (needs_c mode) h (unless_passes (not (needs_c mode) || test_c cs) (Law 3 0) e)
   where
     go : (b : Bool) → b ≡ true → (not b || test_c cs) ≡ true → test_c cs ≡ true

@@ -58,12 +58,12 @@ abbrev pub table_length_measured : ℕ → ℕ → ℕ → List ℕ → Check
 table_length_measured which n m s = cond (leb n most_nodes && leb m most_destinations) (table_length_case which n m s).check Passed
 
 -- 10's check, where the mode needs law C
-abbrev pub law_cCheck : Mode → List Component → Check
-law_cCheck mode cs = unless (not (needs_c mode) || test_c cs) (Law 3 0)
+abbrev pub law_c_check : Mode → List Component → Check
+law_c_check mode cs = unless (not (needs_c mode) || test_c cs) (Law 3 0)
 
 -- 10: the mode's number is 2, hot, and law C fails over all weights
-abbrev pub law_cCase : ℕ → Mode → List Component → Case
-law_cCase number mode cs = record { check = law_cCheck mode cs; tells = Law 3; due = λ place. (place ≡ 0) × (number ≡ 2) × (LawC cs → ⊥) }
+abbrev pub law_c_case : ℕ → Mode → List Component → Case
+law_c_case number mode cs = record { check = law_c_check mode cs; tells = Law 3; due = λ place. (place ≡ 0) × (number ≡ 2) × (LawC cs → ⊥) }
 
 -- 6 on M (buffer 3), whose sums are at most 65,535
 abbrev pub mapping_case : Mode → List Component → ℕ → ℕ → List ℕ → Case

@@ -4,7 +4,7 @@
 
 ghost use Rattle.std.specs.Prelude.{◌≡◌};
 ghost use Rattle.weights.specs.Languages.{places_of};
-ghost use Rattle.table_guards.specs.Checks.{destinations_case, chosen_check, chosen_mode, table_length_measured, law_cCheck};
+ghost use Rattle.table_guards.specs.Checks.{destinations_case, chosen_check, chosen_mode, table_length_measured, law_c_check};
 
 use guards::MOST_NODES;
 use modes::{Chosen, Mode};
@@ -63,7 +63,7 @@ pub fn check_table_length(which: u32, n: u32, m: u32, s: &[u32]) -> Check
 
 // 10: law C, where the mode needs it.
 pub fn check_law_c(p: Places, mode: Mode) -> Check
-    ensures { result ≡ law_cCheck mode (places_of p) }
+    ensures { result ≡ law_c_check mode (places_of p) }
 {
     if !modes::choosing::needs_c(mode) {
         return Check::Passed;

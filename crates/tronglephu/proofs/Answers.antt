@@ -55,14 +55,14 @@ no_room which words s h = rw (lt-leb words (length s) h)
 pub room : (which words : ℕ) (s : List ℕ) → words ≤ length s → (short_case which words s).check ≡ Passed
 room which words s h = rw (le-leb words (length s) h)
 
-room-passed : (which words : ℕ) (s : List ℕ) → (short_case which words s).check ≡ Passed → words ≤ length s
-room-passed which words s e = leb-true words (length s) (unless_passes _ _ e)
+room_passed : (which words : ℕ) (s : List ℕ) → (short_case which words s).check ≡ Passed → words ≤ length s
+room_passed which words s e = leb-true words (length s) (unless_passes _ _ e)
 
 -- ---- read
 
 module _ (file arcs mapping problem : List ℕ) where
-  pub problem-room : room_check arcs mapping problem ≡ Passed → problem_words ≤ length problem
-  problem-room e = room-passed 6 problem_words problem (first_passes (checks_of (room_cases arcs mapping problem)) e).1.1.0
+  pub problem_room : room_check arcs mapping problem ≡ Passed → problem_words ≤ length problem
+  problem_room e = room_passed 6 problem_words problem (first_passes (checks_of (room_cases arcs mapping problem)) e).1.1.0
 
   -- the four promises of `tronglephu_read`
   abbrev pub Reads : Reply → List ℕ → List ℕ → List ℕ → Type 0
@@ -102,24 +102,24 @@ module _ (file arcs mapping problem : List ℕ) where
 
 module _ (l : Language) (s : List ℕ) where
   -- the reply and the report, by what the checks and the law report give
-  abbrev replyBy : Check → Report → Reply
-  replyBy c w = reply_of (check_told c) (if_passed c (held_laws w.law_d w.law_u w.law_c) 0)
+  abbrev reply_by : Check → Report → Reply
+  reply_by c w = reply_of (check_told c) (if_passed c (held_laws w.law_d w.law_u w.law_c) 0)
 
-  abbrev leftBy : Check → Report → List ℕ
-  leftBy c w = if_passed c (laws_words w.law_d w.law_u w.law_c ++ drop report_words s) s
+  abbrev left_by : Check → Report → List ℕ
+  left_by c w = if_passed c (laws_words w.law_d w.law_u w.law_c ++ drop report_words s) s
 
-  laws-order : report_check l s ≡ or_else (language_check l) (or_else (short_case 6 report_words s).check Passed)
-  laws-order = check_append (language_cases l) (short_case 6 report_words s ∷ [])
+  laws_order : report_check l s ≡ or_else (language_check l) (or_else (short_case 6 report_words s).check Passed)
+  laws_order = check_append (language_cases l) (short_case 6 report_words s ∷ [])
 
   -- the two promises of `tronglephu_laws`
   abbrev pub Reports : Reply → List ℕ → Type 0
   Reports x s' = (x ≡ laws_reply l s) × (s' ≡ report_left l s)
 
-  by-check : (r : Refusal) → report_check l s ≡ Refused r → Reports (reply_of (told r) 0) s
-  by-check r e = (ap (λ (c : Check). replyBy c (report l)) (sym e), ap (λ (c : Check). leftBy c (report l)) (sym e))
+  by_check : (r : Refusal) → report_check l s ≡ Refused r → Reports (reply_of (told r) 0) s
+  by_check r e = (ap (λ (c : Check). reply_by c (report l)) (sym e), ap (λ (c : Check). left_by c (report l)) (sym e))
 
-  pub laws-refused : (r : Refusal) → answer_row (NoLaws r) ≡ report l → Reports (reply_of (told r) 0) s
-  laws-refused r e = by-check r (laws-order ∙ stops (or_else (short_case 6 report_words s).check Passed) (go (language_check l) (components_of l) e))
+  pub laws_refused : (r : Refusal) → answer_row (NoLaws r) ≡ report l → Reports (reply_of (told r) 0) s
+  laws_refused r e = by_check r (laws_order ∙ stops (or_else (short_case 6 report_words s).check Passed) (go (language_check l) (components_of l) e))
     where
       go : (c : Check) (cs : List Component) → answer_row (NoLaws r) ≡ report_of c cs → c ≡ Refused r
       go Passed cs e = absurd (told_not_done r (ap (λ (w : Report). w.told) e))
@@ -133,25 +133,25 @@ module _ (l : Language) (s : List ℕ) where
         go Passed cs e = refl
         go (Refused x) cs e = absurd (told_not_done x (sym (ap (λ (w : Report). w.told) e)))
 
-    pub report-short : length s < report_words → Reports (reply_of (told (Length 6 0)) 0) s
-    report-short h = by-check (Length 6 0) (laws-order ∙ goes_on passes (stops Passed (no_room 6 report_words s h)))
+    pub report_short : length s < report_words → Reports (reply_of (told (Length 6 0)) 0) s
+    report_short h = by_check (Length 6 0) (laws_order ∙ goes_on passes (stops Passed (no_room 6 report_words s h)))
 
-    pub report-written : (s' : List ℕ) → report_words ≤ length s → s' ≡ laws_words (law_of d) (law_of u) (law_of c) ++ drop report_words s
+    pub report_written : (s' : List ℕ) → report_words ≤ length s → s' ≡ laws_words (law_of d) (law_of u) (law_of c) ++ drop report_words s
         → Reports (reply_of done (held_laws (law_of d) (law_of u) (law_of c))) s'
-    report-written s' h f =
-        let k : report_check l s ≡ Passed = laws-order ∙ goes_on passes (goes_on (room 6 report_words s h) refl) in (
-          ap (replyBy Passed) e ∙ ap (λ (c : Check). replyBy c (report l)) (sym k),
-          f ∙ ap (leftBy Passed) e ∙ ap (λ (c : Check). leftBy c (report l)) (sym k),
+    report_written s' h f =
+        let k : report_check l s ≡ Passed = laws_order ∙ goes_on passes (goes_on (room 6 report_words s h) refl) in (
+          ap (reply_by Passed) e ∙ ap (λ (c : Check). reply_by c (report l)) (sym k),
+          f ∙ ap (left_by Passed) e ∙ ap (λ (c : Check). left_by c (report l)) (sym k),
         )
 
 -- ---- next hop
 
-pub hop-refused : (r : Refusal) → reply_of (told r) 0 ≡ hop_reply_of (hop_said (HopRefused r))
-hop-refused r = rw (refusal_not_done r)
+pub hop_refused : (r : Refusal) → reply_of (told r) 0 ≡ hop_reply_of (hop_said (HopRefused r))
+hop_refused r = rw (refusal_not_done r)
 
 -- a next hop is a node, below 16
-pub hop-small : (N : OnNetwork) (r : List ℕ) (i j : ℕ) (k : Node) → hop_said (Hop k) ≡ hop_row N r i j → k.0 < 16
-hop-small N r i j k e =
+pub hop_small : (N : OnNetwork) (r : List ℕ) (i j : ℕ) (k : Node) → hop_said (Hop k) ≡ hop_row N r i j → k.0 < 16
+hop_small N r i j k e =
     let h = (hop_given N r i j k.0).0 (sym (ap (λ (w : HopRow). w.node) e)) in
     let few = nodes_passed N.n (first_passes (checks_of (hop_cases N r i j)) h.0).0 in
     let below = h.1.hop.below in
@@ -160,8 +160,8 @@ hop-small N r i j k e =
 -- ---- handover
 
 -- the row of the buffer that the reply numbers is the row that is lent
-pub row-lent : (N : OnNetwork) (standing newer : List ℕ) (i : ℕ) → lent_row N standing newer i ≡ row_lent_by (handover_reply N standing newer i).value N.n i standing newer
-row-lent N standing newer i = go (handover_check N standing newer i) (is_best N newer)
+pub row_lent : (N : OnNetwork) (standing newer : List ℕ) (i : ℕ) → lent_row N standing newer i ≡ row_lent_by (handover_reply N standing newer i).value N.n i standing newer
+row_lent N standing newer i = go (handover_check N standing newer i) (is_best N newer)
   where
     go : (c : Check) (b : Bool) → if_passed c (cond b (row_part N.n i newer) (row_part N.n i standing)) [] ≡ row_lent_by (lender_row_by c b).buffer N.n i standing newer
     go Passed true = refl

@@ -1,7 +1,7 @@
 use Rattle.guards.specs.OnNetwork.{on_network}
 use mathlib.Core.Path.{sym, ◌∙◌}
 use Rattle.routes.proofs.Lists.{list_passed}
-use Rattle.routes.proofs.Answers.{steps-refused, list-refused, steps-stopped, steps-done}
+use Rattle.routes.proofs.Answers.{steps_refused, list_refused, steps_stopped, steps_done}
 use borrow.Author.Rules.{rules}
 use Rattle.steps.proofs.steps.Statement.{statement}
 use Rattle.steps.proofs.steps.Tie as tie
@@ -42,13 +42,13 @@ returns c =
     let s = c.before.before.before.before.before.before.before.before.before.before.before.before.before.before.before.before.args in
     let p = c.before.before.before.before.before.before.before.before.before.p.given in
     let said = rw p.1 at c.before.before.before.before.before.before.before.before.before.before.before.ready.ensures in
-    steps-stopped (on_network s.l s.n s.a.now) s.r.now s.list.now p.0.0 said.0 said.1 said.2 (sym c.before.before.before.before.before.before.before.check-list.ensures ∙ c.before.before.before.before.before.enum_told.given.1) _ _ c.before.before.before.run.ensures.0 c.before.before.before.run.ensures.1 c.if1.true
+    steps_stopped (on_network s.l s.n s.a.now) s.r.now s.list.now p.0.0 said.0 said.1 said.2 (sym c.before.before.before.before.before.before.before.check-list.ensures ∙ c.before.before.before.before.before.enum_told.given.1) _ _ c.before.before.before.run.ensures.0 c.before.before.before.run.ensures.1 c.if1.true
 
 same-length-2 : tie.Need-same-length-2
 same-length-2 c = search rules
 
 returns-2 : tie.Need-returns-2
-returns-2 c = let s = c.before.before.before.before.before.before.before.before.args in steps-refused (on_network s.l s.n s.a.now) s.r.now s.list.now c.before.x.given.0.0 (rw c.before.x.given.1 at c.before.before.before.ready.ensures)
+returns-2 c = let s = c.before.before.before.before.before.before.before.before.args in steps_refused (on_network s.l s.n s.a.now) s.r.now s.list.now c.before.x.given.0.0 (rw c.before.x.given.1 at c.before.before.before.ready.ensures)
 
 same-length-3 : tie.Need-same-length-3
 same-length-3 c = search rules
@@ -58,7 +58,7 @@ returns-3 c =
     let s = c.before.before.before.before.before.before.before.before.before.before.before.before.args in
     let p = c.before.before.before.before.before.p.given in
     let said = rw p.1 at c.before.before.before.before.before.before.before.ready.ensures in
-    list-refused (on_network s.l s.n s.a.now) s.r.now s.list.now p.0.0 said.0 c.before.x2.given.0.0 (sym c.before.before.before.check-list.ensures ∙ c.before.x2.given.1)
+    list_refused (on_network s.l s.n s.a.now) s.r.now s.list.now p.0.0 said.0 c.before.x2.given.0.0 (sym c.before.before.before.check-list.ensures ∙ c.before.x2.given.1)
 
 same-length-4 : tie.Need-same-length-4
 same-length-4 c = search rules
@@ -68,7 +68,7 @@ returns-4 c =
     let s = c.before.before.before.before.before.before.before.before.before.before.before.before.before.before.before.before.args in
     let p = c.before.before.before.before.before.before.before.before.before.p.given in
     let said = rw p.1 at c.before.before.before.before.before.before.before.before.before.before.before.ready.ensures in
-    steps-done (on_network s.l s.n s.a.now) s.r.now s.list.now p.0.0 said.0 said.1 said.2 (sym c.before.before.before.before.before.before.before.check-list.ensures ∙ c.before.before.before.before.before.enum_told.given.1) _ _ c.before.before.before.run.ensures.0 c.before.before.before.run.ensures.1 c.if1.false
+    steps_done (on_network s.l s.n s.a.now) s.r.now s.list.now p.0.0 said.0 said.1 said.2 (sym c.before.before.before.before.before.before.before.check-list.ensures ∙ c.before.before.before.before.before.enum_told.given.1) _ _ c.before.before.before.run.ensures.0 c.before.before.before.run.ensures.1 c.if1.false
 
 pub steps-spec : {M : Type 1} → statement M
 steps-spec =

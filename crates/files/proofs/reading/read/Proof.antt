@@ -1,16 +1,16 @@
 use native.Mathlib.Omega.{arith}
 use mathlib.Core.Path.{sym, ◌∙◌}
 use Rattle.files.proofs.Bodies.{checked_body}
-use Rattle.files.proofs.Answering.{short_arcs, short_mapping, read_refused, read_done}
+use Rattle.files.proofs.Answering.{short_arcs_lem, short_mapping_lem, read_refused, read_done}
 use borrow.Author.Rules.{rules}
 use Rattle.files.proofs.reading.read.Statement.{statement}
 use Rattle.files.proofs.reading.read.Tie as tie
 
 returns : tie.Need-returns
-returns c = let a = c.before.before.before.before.args in short_arcs a.file.now a.arcs.now a.mapping.now c.if1.true
+returns c = let a = c.before.before.before.before.args in short_arcs_lem a.file.now a.arcs.now a.mapping.now c.if1.true
 
 returns-2 : tie.Need-returns-2
-returns-2 c = let a = c.before.before.before.before.before.args in short_mapping a.file.now a.arcs.now a.mapping.now c.before.if1.false c.if2.true
+returns-2 c = let a = c.before.before.before.before.before.args in short_mapping_lem a.file.now a.arcs.now a.mapping.now c.before.if1.false c.if2.true
 
 check-file-requires : tie.Need-check-file-requires
 check-file-requires c κs = search rules

@@ -5,7 +5,7 @@ use Rattle.guards.specs.OnNetwork.{on_network}
 use Rattle.table_guards.specs.Checks.{chosen_mode}
 use Rattle.forwarding.specs.Calls.{OnTables, on_tables}
 use Rattle.forwarding.proofs.Order.{Found, found, forward_stops, forward_measured, contents_then, table_given}
-use Rattle.forwarding.proofs.Answers.{forward_refused, forward-done}
+use Rattle.forwarding.proofs.Answers.{forward_refused, forward_done}
 use borrow.Author.Rules.{rules}
 use Rattle.forwarding.proofs.forward.forward.Statement.{statement}
 use Rattle.forwarding.proofs.forward.forward.Tie as tie
@@ -118,7 +118,7 @@ same-length-3 : tie.Need-same-length-3
 same-length-3 c = search rules
 
 returns-3 : tie.Need-returns-3
-returns-3 c = forward-done (given c.before.before.before.before.before.before.before.before.before.before.before) (buffer c.before.before.before.before.before.before.before.before.before.before.before) (found-there c.before.before.before.before.before.before.before.before.before.before.before) c.before.before.before.before.before.before.before.before.before.p.given.0.0 (rw c.before.before.before.before.before.before.before.before.before.p.given.1 at c.before.before.before.before.before.before.before.before.before.before.before.enter.ensures) (c.before.before.before.before.before.before.before.chosen-mode.ensures ∙ ap chosen_mode c.before.before.before.before.before.before.before.before.before.before.before.before.before.before.before.before.before.before.before.before.before.before.before.before.before.mode-for.ensures) c.before.before.before.before.before.before.check-contents.ensures c.before.before.before.before.enum_told.given.1 _ c.before.before.forward-table.ensures
+returns-3 c = forward_done (given c.before.before.before.before.before.before.before.before.before.before.before) (buffer c.before.before.before.before.before.before.before.before.before.before.before) (found-there c.before.before.before.before.before.before.before.before.before.before.before) c.before.before.before.before.before.before.before.before.before.p.given.0.0 (rw c.before.before.before.before.before.before.before.before.before.p.given.1 at c.before.before.before.before.before.before.before.before.before.before.before.enter.ensures) (c.before.before.before.before.before.before.before.chosen-mode.ensures ∙ ap chosen_mode c.before.before.before.before.before.before.before.before.before.before.before.before.before.before.before.before.before.before.before.before.before.before.before.before.before.mode-for.ensures) c.before.before.before.before.before.before.check-contents.ensures c.before.before.before.before.enum_told.given.1 _ c.before.before.forward-table.ensures
 
 pub forward-spec : {M : Type 1} → statement M
 forward-spec =

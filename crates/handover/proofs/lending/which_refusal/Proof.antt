@@ -1,5 +1,5 @@
 use Rattle.guards.specs.OnNetwork.{on_network}
-use Rattle.handover.proofs.Answers.{told-newer, told-standing, told-refused}
+use Rattle.handover.proofs.Answers.{told_newer, told_standing, told_refused}
 use borrow.Author.Rules.{rules}
 use Rattle.handover.proofs.lending.which_refusal.Statement.{statement}
 use Rattle.handover.proofs.lending.which_refusal.Tie as tie
@@ -17,13 +17,13 @@ enum-known-x : tie.Need-enum-known-x
 enum-known-x c = search rules
 
 returns : tie.Need-returns
-returns c = let a = c.before.before.before.before.before.before.args in told-newer (on_network a.l a.n a.a.now) a.standing.now a.newer.now a.i (rw c.enum_told.given.1 at c.before.before.lender.ensures)
+returns c = let a = c.before.before.before.before.before.before.args in told_newer (on_network a.l a.n a.a.now) a.standing.now a.newer.now a.i (rw c.enum_told.given.1 at c.before.before.lender.ensures)
 
 returns-2 : tie.Need-returns-2
-returns-2 c = let a = c.before.before.before.before.before.before.args in told-standing (on_network a.l a.n a.a.now) a.standing.now a.newer.now a.i (rw c.enum-told2.given.1 at c.before.before.lender.ensures)
+returns-2 c = let a = c.before.before.before.before.before.before.args in told_standing (on_network a.l a.n a.a.now) a.standing.now a.newer.now a.i (rw c.enum-told2.given.1 at c.before.before.lender.ensures)
 
 returns-3 : tie.Need-returns-3
-returns-3 c = let a = c.before.before.before.before.before.before.before.args in told-refused (on_network a.l a.n a.a.now) a.standing.now a.newer.now a.i c.before.x.given.0.0 (rw c.before.x.given.1 at c.before.before.before.lender.ensures)
+returns-3 c = let a = c.before.before.before.before.before.before.before.args in told_refused (on_network a.l a.n a.a.now) a.standing.now a.newer.now a.i c.before.x.given.0.0 (rw c.before.x.given.1 at c.before.before.before.lender.ensures)
 
 pub which-refusal-spec : {M : Type 1} → statement M
 which-refusal-spec =

@@ -2,7 +2,7 @@ use Rattle.guards.specs.OnNetwork.{on_network}
 use mathlib.Core.Path.{sym, ap, ◌∙◌}
 use Rattle.hops.specs.NextHop.{found_at}
 use Rattle.refusals.specs.declared.Check.TheVariants.{Passed}
-use Rattle.hops.proofs.Answers.{hop_row_by, refused-before, pair-refused, pair-in, found-row}
+use Rattle.hops.proofs.Answers.{hop_row_by, refused_before, pair_refused, pair_in, found_row}
 use borrow.Author.Rules.{rules}
 use Rattle.hops.proofs.next_hop.next_hop.Statement.{statement}
 use Rattle.hops.proofs.next_hop.next_hop.Tie as tie
@@ -36,7 +36,7 @@ hop-requires c κs =
     let s = c.before.before.before.before.before.before.before.before.before.before.before.args in
     let p = c.before.before.before.before.before.before.p.given in
     let said = rw p.1 at c.before.before.before.before.before.before.before.before.ready.ensures in
-    let pair = pair-in (on_network s.l s.n s.a.now) s.r.now s.i s.j said.0 c.before.before.before.before.check-node.ensures c.before.before.before.check-node2.ensures c.before.before.or_else.ensures p.0.0 said.1 said.2 c.enum_told.given.1 in
+    let pair = pair_in (on_network s.l s.n s.a.now) s.r.now s.i s.j said.0 c.before.before.before.before.check-node.ensures c.before.before.before.check-node2.ensures c.before.before.or_else.ensures p.0.0 said.1 said.2 c.enum_told.given.1 in
     (said.2, pair.0, pair.1)
 
 enum-known-k : tie.Need-enum-known-k
@@ -46,14 +46,14 @@ enum-told-2 : tie.Need-enum-told-2
 enum-told-2 c = search rules
 
 returns : tie.Need-returns
-returns c = let s = c.before.before.before.before.before.before.args in refused-before (on_network s.l s.n s.a.now) s.r.now s.i s.j c.before.x.given.0.0 (rw c.before.x.given.1 at c.before.before.before.ready.ensures)
+returns c = let s = c.before.before.before.before.before.before.args in refused_before (on_network s.l s.n s.a.now) s.r.now s.i s.j c.before.x.given.0.0 (rw c.before.x.given.1 at c.before.before.before.ready.ensures)
 
 returns-2 : tie.Need-returns-2
 returns-2 c =
     let s = c.before.before.before.before.before.before.before.before.before.before.before.before.args in
     let p = c.before.before.before.before.before.before.before.p.given in
     let said = rw p.1 at c.before.before.before.before.before.before.before.before.before.ready.ensures in
-    pair-refused (on_network s.l s.n s.a.now) s.r.now s.i s.j said.0 c.before.before.before.before.before.check-node.ensures c.before.before.before.before.check-node2.ensures c.before.before.before.or_else.ensures c.before.x2.given.0.0 c.before.x2.given.1
+    pair_refused (on_network s.l s.n s.a.now) s.r.now s.i s.j said.0 c.before.before.before.before.before.check-node.ensures c.before.before.before.before.check-node2.ensures c.before.before.before.or_else.ensures c.before.x2.given.0.0 c.before.x2.given.1
 
 returns-3 : tie.Need-returns-3
 returns-3 c =
@@ -61,7 +61,7 @@ returns-3 c =
     let p = c.before.before.before.before.before.before.before.before.before.before.p.given in
     let said = rw p.1 at c.before.before.before.before.before.before.before.before.before.before.before.before.ready.ensures in
     ap (λ f. hop_row_by Passed (found_at f)) (sym c.before.k.given.1)
-    ∙ found-row (on_network s.l s.n s.a.now) s.r.now s.i s.j said.0 c.before.before.before.before.before.before.before.before.check-node.ensures c.before.before.before.before.before.before.before.check-node2.ensures c.before.before.before.before.before.before.or_else.ensures p.0.0 said.1 said.2 c.before.before.before.before.enum_told.given.1 c.before.before.before.hop.result c.before.before.before.hop.ensures
+    ∙ found_row (on_network s.l s.n s.a.now) s.r.now s.i s.j said.0 c.before.before.before.before.before.before.before.before.check-node.ensures c.before.before.before.before.before.before.before.check-node2.ensures c.before.before.before.before.before.before.or_else.ensures p.0.0 said.1 said.2 c.before.before.before.before.enum_told.given.1 c.before.before.before.hop.result c.before.before.before.hop.ensures
 
 returns-4 : tie.Need-returns-4
 returns-4 c =
@@ -69,7 +69,7 @@ returns-4 c =
     let p = c.before.before.before.before.before.before.before.before.before.p.given in
     let said = rw p.1 at c.before.before.before.before.before.before.before.before.before.before.before.ready.ensures in
     ap (λ f. hop_row_by Passed (found_at f)) (sym c.enum-told2.given.1)
-    ∙ found-row (on_network s.l s.n s.a.now) s.r.now s.i s.j said.0 c.before.before.before.before.before.before.before.check-node.ensures c.before.before.before.before.before.before.check-node2.ensures c.before.before.before.before.before.or_else.ensures p.0.0 said.1 said.2 c.before.before.before.enum_told.given.1 c.before.before.hop.result c.before.before.hop.ensures
+    ∙ found_row (on_network s.l s.n s.a.now) s.r.now s.i s.j said.0 c.before.before.before.before.before.before.before.check-node.ensures c.before.before.before.before.before.before.check-node2.ensures c.before.before.before.before.before.or_else.ensures p.0.0 said.1 said.2 c.before.before.before.enum_told.given.1 c.before.before.hop.result c.before.before.hop.ensures
 
 pub next-hop-spec : {M : Type 1} → statement M
 next-hop-spec =

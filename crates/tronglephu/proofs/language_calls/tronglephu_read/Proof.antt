@@ -1,5 +1,5 @@
 use mathlib.Core.Path.{sym, ◌∙◌}
-use Rattle.tronglephu.proofs.Answers.{problem-room, read_short, read_refused, read_done}
+use Rattle.tronglephu.proofs.Answers.{problem_room, read_short, read_refused, read_done}
 use borrow.Author.Rules.{rules}
 use Rattle.tronglephu.proofs.language_calls.tronglephu_read.Statement.{statement}
 use Rattle.tronglephu.proofs.language_calls.tronglephu_read.Tie as tie
@@ -29,7 +29,7 @@ enum-known-n : tie.Need-enum-known-n
 enum-known-n c = search rules
 
 put-problem-requires : tie.Need-put-problem-requires
-put-problem-requires c κs = let a = c.before.before.before.before.before.before.before.before.before.before.before.before.before.before.before.before.before.before.before.before.before.args in problem-room a.file.now a.arcs.now a.mapping.now a.problem.now (sym c.before.before.before.before.before.before.before.before.before.before.before.before.before.check-room.ensures ∙ c.before.before.before.before.before.before.before.before.before.before.before.enum_told.given.1)
+put-problem-requires c κs = let a = c.before.before.before.before.before.before.before.before.before.before.before.before.before.before.before.before.before.before.before.before.before.args in problem_room a.file.now a.arcs.now a.mapping.now a.problem.now (sym c.before.before.before.before.before.before.before.before.before.before.before.before.before.check-room.ensures ∙ c.before.before.before.before.before.before.before.before.before.before.before.enum_told.given.1)
 
 done-requires : tie.Need-done-requires
 done-requires c κs = search rules
