@@ -104,7 +104,7 @@ tag_numbers s at left = refl
 pub nested_exact : (s : List ℕ) (at left wanted : ℕ) → AllExact (nested_cases s at left wanted)
 unfolding nested_cases
 nested_exact s at zero zero = no_more
-nested_exact s at zero (suc wanted) = append_exact (tag_all_exact s at 0) (nested_exact s (after_component s at) 0 wanted)
+nested_exact s at zero (suc wanted) = append_exact (tag_all_exact s at 0) (nested_exact s (after_component s at) zero wanted)
 nested_exact s at (suc left) zero = no_more
 nested_exact s at (suc left) (suc wanted) =
     append_exact (tag_all_exact s at (suc left))

@@ -79,7 +79,7 @@ after_component s at = cond (has_limit (byte_at s at)) (at + 3) (at + 1)
 -- is one of those wanted.
 unfoldable pub nested_cases : List ℕ → ℕ → ℕ → ℕ → List Case
 nested_cases s at zero zero = []
-nested_cases s at zero (suc wanted) = tag_cases s at 0 ++ nested_cases s (after_component s at) 0 wanted
+nested_cases s at zero (suc wanted) = tag_cases s at 0 ++ nested_cases s (after_component s at) zero wanted
 nested_cases s at (suc left) zero = []
 nested_cases s at (suc left) (suc wanted) =
     tag_cases s at (suc left)

@@ -1,0 +1,21 @@
+use Rattle.guards.specs.OnNetwork.{on_network}
+use Rattle.handover.proofs.Order.{handover_stops, squares, own_then, handover_given}
+use Rattle.guards.proofs.check_length.Reads as check-length-reads
+use Rattle.guards.proofs.check_node.Reads as check-node-reads
+use Rattle.guards.proofs.check_nodes.Reads as check-nodes-reads
+use Rattle.guards.proofs.entrance.enter.Reads as enter-reads
+use Rattle.matrices.proofs.checks.first_malformed.Reads as first-malformed-reads
+use Rattle.refusals.proofs.checks.or_else.Reads as or-else-reads
+use Rattle.handover.proofs.checks.ready.Goals as goal
+
+pub first_malformed-arcs-requires : goal.first_malformed-arcs-requires
+first_malformed-arcs-requires c = let s = c.args in (squares (on_network s.l s.n s.a.now) s.standing.now s.newer.now s.i c.check_nodes.ensures c.check_length.ensures c.check_length-2.ensures c.or_else-matrices.ensures c.check_length-3.ensures c.or_else-lengths.ensures c.in-Given.p (rw c.in-Given.is at c.enter.ensures)).0
+
+pub returns-in-Refused : goal.returns-in-Refused
+returns-in-Refused c = let s = c.args in handover_stops (on_network s.l s.n s.a.now) s.standing.now s.newer.now s.i c.check_nodes.ensures c.check_length.ensures c.check_length-2.ensures c.or_else-matrices.ensures c.check_length-3.ensures c.or_else-lengths.ensures (rw c.in-Refused.is at c.enter.ensures)
+
+pub returns-in-Refused-or_else : goal.returns-in-Refused-or_else
+returns-in-Refused-or_else c = let s = c.args in own_then (on_network s.l s.n s.a.now) s.standing.now s.newer.now s.i c.check_nodes.ensures c.check_length.ensures c.check_length-2.ensures c.or_else-matrices.ensures c.check_length-3.ensures c.or_else-lengths.ensures c.in-Given.p (rw c.in-Given.is at c.enter.ensures) c.first_malformed-arcs.ensures c.check_node.ensures c.or_else.ensures c.in-Refused-or_else.is
+
+pub returns-in-Passed : goal.returns-in-Passed
+returns-in-Passed c = let s = c.args in handover_given (on_network s.l s.n s.a.now) s.standing.now s.newer.now s.i c.check_nodes.ensures c.check_length.ensures c.check_length-2.ensures c.or_else-matrices.ensures c.check_length-3.ensures c.or_else-lengths.ensures c.in-Given.p (rw c.in-Given.is at c.enter.ensures) c.first_malformed-arcs.ensures c.check_node.ensures c.or_else.ensures c.in-Passed.is

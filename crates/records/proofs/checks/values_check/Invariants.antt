@@ -1,0 +1,14 @@
+use native.Mathlib.Omega.{arith}
+use mathlib.Core.Path.{◌≡◌, sym, ◌∙◌}
+use borrow.Author.Tests.{not-true, not-false}
+use Prim.Native.Nat.{◌-◌, ◌≤◌}
+use Rattle.weights.specs.Languages.{components_of}
+use Rattle.records.specs.Records.{values_check}
+use Rattle.records.proofs.Remaining.{left_check, values_more, values_none, values_all}
+use Rattle.records.proofs.checks.values_check.Given as goal
+
+abbrev pub invariant-loop-k : goal.invariant-loop-k
+invariant-loop-k l = (l.k ≤ l.count) × (values_check l.file (components_of l.l) l.at ≡ left_check l.file l.l l.at l.k)
+
+abbrev pub decreases-loop-k : goal.decreases-loop-k
+decreases-loop-k l = l.count - l.k

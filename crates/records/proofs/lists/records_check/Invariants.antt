@@ -1,0 +1,13 @@
+use native.Mathlib.Omega.{arith}
+use mathlib.Core.Path.{◌≡◌, sym, ◌∙◌}
+use Prim.Native.Nat.{◌+◌, ◌*◌, ◌-◌, ◌≤◌}
+use native.Mathlib.Nat.{sub-zero}
+use Rattle.records.specs.Records.{records_check}
+use Rattle.records.proofs.Remaining.{records_more, records_none}
+use Rattle.records.proofs.lists.records_check.Given as goal
+
+abbrev pub invariant-loop-e : goal.invariant-loop-e
+invariant-loop-e l = (l.e ≤ l.count) × (l.at ≤ l.first + l.e * 12) × (records_check l.file l.h l.list l.first 0 l.count ≡ records_check l.file l.h l.list l.at l.low (l.count - l.e))
+
+abbrev pub decreases-loop-e : goal.decreases-loop-e
+decreases-loop-e l = l.count - l.e

@@ -1,0 +1,17 @@
+use Prim.Native.Nat.{ℕ, ◌-◌, ◌≤◌}
+use mathlib.Core.List.{List}
+use native.Mathlib.Omega.{arith}
+use Rattle.tables.specs.Tables.{table_in}
+use Rattle.texts.specs.Lines.{entry_line}
+use Rattle.texts.proofs.Growing.{Grown, grown_none, grown_more, grown_all}
+use Rattle.texts.proofs.rows.put_forward_row.Given as goal
+
+-- line d of the row
+abbrev pub line : ℕ → ℕ → ℕ → ℕ → List ℕ → ℕ → List ℕ
+line count mode m i f d = entry_line mode i d (table_in count m f i d)
+
+abbrev pub invariant-loop-d : goal.invariant-loop-d
+invariant-loop-d l = (l.d ≤ l.m) × Grown 79 (line l.count l.mode l.m l.i l.f) l.initial.out l.at l.d l.out l.end
+
+abbrev pub decreases-loop-d : goal.decreases-loop-d
+decreases-loop-d l = l.m - l.d
