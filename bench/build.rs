@@ -26,7 +26,7 @@ const CRATES: [&str; 26] = [
     "forwarding",
     "hops",
     "handover",
-    "bytes",
+    "file_bytes",
     "fields",
     "records",
     "contents",
@@ -44,7 +44,7 @@ fn main() {
     );
     if !archive.is_file() {
         eprintln!(
-            "{} is not there: make it with `rt staticlib tronglephu`.",
+            "{} is not there: make it with tools/archive.",
             archive.display()
         );
         process::exit(1);
@@ -86,8 +86,9 @@ fn plain_lines(file: &Path) -> Vec<String> {
     let mut lines = Vec::new();
     for line in text.lines() {
         let inner = line.trim_start();
-        let contract = inner.starts_with("requires {") || inner.starts_with("ensures {");
-        if contract || line.starts_with("ghost use ") {
+        let contract = inner.starts_with("requires ") || inner.starts_with("ensures ");
+        let marked = line.starts_with("#![tactic(") || line.starts_with("#[derive(");
+        if contract || marked || line.starts_with("ghost use ") {
             continue;
         }
         if ["pub struct ", "pub enum ", "struct ", "enum "]

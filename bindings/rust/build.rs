@@ -19,7 +19,7 @@ fn main() {
     println!("cargo:rerun-if-changed={}", archive.display());
     if !archive.is_file() {
         eprintln!("{} is not there.", archive.display());
-        eprintln!("Make it with `rt staticlib tronglephu` at the root of the repository,");
+        eprintln!("Make it with `tools/archive` at the root of the repository,");
         eprintln!("or let {VARIABLE} name the folder that has {ARCHIVE}.");
         process::exit(1);
     }

@@ -45,7 +45,7 @@
 //! # Linking
 //!
 //! The build script looks for `libtronglephu.a` in the folder that the environment variable `TRONGLEPHU_LIB` names, or
-//! else in `target/staticlib` of the repository, where `rt staticlib tronglephu` puts it. The archive is x86-64 code; on
+//! else in `target/staticlib` of the repository, where `tools/archive` puts it. The archive is x86-64 code; on
 //! another processor the crate does not compile. The library uses no heap and no globals, so every call may be made from
 //! any thread; the buffers of this crate are ordinary vectors.
 //!

@@ -11,7 +11,7 @@ use native.Mathlib.Omega.{arith}
 use native.Mathlib.Decide.{ℕ_discrete}
 use Rattle.algebra.specs.Algebra.{Algebra, order}
 use Rattle.algebra.specs.Path.{Mem, Below, Simple, Matrix, path_weight}
-use Rattle.algebra.specs.Best.{OfSimplePath, Best, best}
+use Rattle.algebra.specs.Best.{OfSimplePath, Best}
 use Rattle.algebra.specs.Step.{fresh, through, routed}
 use Rattle.algebra.specs.Demand.{HoldsBest}
 use Rattle.algebra.proofs.Orders.{NoWorse, nw_refl, nw_eq, nw_trans, nw_antisym, best_of_mono, best_of_is, Chosen}

@@ -31,5 +31,5 @@ module _ (𝓐 : Algebra) where
     pub associates : (x y z : Weight) → Valid x → Valid y → Valid z → join (join x y) z ≡ join x (join y z)
     pub neutral : (x : Weight) → Valid x → join unit x ≡ x
     pub absorbs : (x : Weight) → Valid x → join x none ≡ none
-    pub law_d_lem : (s x y : Weight) → Valid s → Valid x → Valid y → better y x ≡ false → better (join s y) (join s x) ≡ false
-    pub law_u_lem : (x : Weight) → Valid x → better x unit ≡ false
+    pub law_d_holds : (s x y : Weight) → Valid s → Valid x → Valid y → better y x ≡ false → better (join s y) (join s x) ≡ false
+    pub law_u_holds : (x : Weight) → Valid x → better x unit ≡ false

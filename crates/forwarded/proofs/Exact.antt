@@ -98,7 +98,7 @@ module _ (T : OnTables) (f : List ℕ) where
       given = well_given T f passed
 
       solved : solves cs n (arcs_on network) (routes_on T) ≡ true
-      solved = best_solves cs given.sound given.law_d_lem given.law_u_lem n (arcs_on network) (routes_on T) (entry_valid arc_sum cs n arcs (few network.language) given.formed.in_arcs) b
+      solved = best_solves cs given.sound given.law_d_holds given.law_u_holds n (arcs_on network) (routes_on T) (entry_valid arc_sum cs n arcs (few network.language) given.formed.in_arcs) b
 
   -- .. and so 12 is never given.
   pub best_never_twelve : EveryRouteBest network routes → answer ≡ row 12 2 0 → ⊥

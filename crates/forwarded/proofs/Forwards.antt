@@ -150,7 +150,7 @@ module _ (T : OnTables) (f : List ℕ) where
     unfolding onward
     forward_equation i d hi hd =
         forward_sum i d hi hd
-        ∙ language_forwards mode cs ready.sound ready.law_d_lem ready.law_u_lem ready.law_c_lem n m (arcs_on network) (arcs_valid ready.formed) (mapping_on T) (mapping_valid ready.formed)
+        ∙ language_forwards mode cs ready.sound ready.law_d_holds ready.law_u_holds ready.law_c_holds n m (arcs_on network) (arcs_valid ready.formed) (mapping_on T) (mapping_valid ready.formed)
         (routes_on T) (routes_valid ready.formed) solved i d hi hd
         ∙ best_of_same (mode_of mode cs).entries n (carried (language cs) (mode_of mode cs) (arcs_on network) (forwarding_sum T) i d) (carried (language cs) (mode_of mode cs) (arcs_on network) (left T f) i d) (mapping_on T i d)
         (λ k hk. ap ((mode_of mode cs).apply (arcs_on network i k)) (sym (forward_sum k d hk hd)))
@@ -165,7 +165,7 @@ module _ (T : OnTables) (f : List ℕ) where
         → BestForwarded (language cs) (mode_of mode cs) n (arcs_on network) (mapping_on T) i d (left T f i d)
     forward_best b i d hi hd =
         subst (BestForwarded (language cs) (mode_of mode cs) n (arcs_on network) (mapping_on T) i d) (sym (forward_sum i d hi hd))
-        (language_forwarded_best mode cs ready.sound ready.law_d_lem ready.law_u_lem ready.law_c_lem n m (arcs_on network) (arcs_valid ready.formed) (mapping_on T) (mapping_valid ready.formed) (routes_on T) b i d hi hd)
+        (language_forwarded_best mode cs ready.sound ready.law_d_holds ready.law_u_holds ready.law_c_holds n m (arcs_on network) (arcs_valid ready.formed) (mapping_on T) (mapping_valid ready.formed) (routes_on T) b i d hi hd)
 
     -- all of it
     pub forward_says : SmallLimits 65535 cs → TableSays T f

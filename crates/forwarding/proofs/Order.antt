@@ -87,7 +87,7 @@ module _ (mode : Mode) (cs : List Component) (n m : ℕ) (a r mapping : List ℕ
     pub matrices_given : found ≡ Passed → Given cs n a r
     matrices_given e =
         let w = firsts_formed g.in_arcs g.in_routes g.in_mapping (sym found_firsts ∙ e) in
-        record { limits = g.limits; sound = g.sound; law_d_lem = g.law_d_lem; law_u_lem = g.law_u_lem; arcs = w.in_arcs; routes = w.in_routes }
+        record { limits = g.limits; sound = g.sound; law_d_holds = g.law_d_holds; law_u_holds = g.law_u_holds; arcs = w.in_arcs; routes = w.in_routes }
 
 -- ---- the call
 
@@ -154,7 +154,7 @@ module _ (T : OnTables) (f : List ℕ) where
       pub forward_measured : Measured (places_of p) n m arcs routes mapping
       forward_measured =
           let s = o.in_places in
-          record { limits = s.limits; sound = s.sound; law_d_lem = s.law_d_lem; law_u_lem = s.law_u_lem; in_arcs = long.in_arcs; in_routes = long.in_routes; in_mapping = long.in_mapping }
+          record { limits = s.limits; sound = s.sound; law_d_holds = s.law_d_holds; law_u_holds = s.law_u_holds; in_arcs = long.in_arcs; in_routes = long.in_routes; in_mapping = long.in_mapping }
 
       -- ---- the contents, in the places and in the language
 
@@ -204,9 +204,9 @@ module _ (T : OnTables) (f : List ℕ) where
   -- a sound and lawful language, and A, R and M well formed: all that is known where every check but 12 passes
   pub record WellGiven : Type 0 where
     pub sound : Sound cs
-    pub law_d_lem : test_d cs ≡ true
-    pub law_u_lem : test_u cs ≡ true
-    pub law_c_lem : needs_c (mode_meant T) ≡ true → test_c cs ≡ true
+    pub law_d_holds : test_d cs ≡ true
+    pub law_u_holds : test_u cs ≡ true
+    pub law_c_holds : needs_c (mode_meant T) ≡ true → test_c cs ≡ true
     pub formed : BuffersFormed (mode_meant T) cs n m arcs routes mapping
 
   pub well_given : check_of (first_cases 15 (forward_cases T f)) ≡ Passed → WellGiven
@@ -215,9 +215,9 @@ module _ (T : OnTables) (f : List ℕ) where
       let w = long_enough ((nodes_passed n en).1, destinations_passed m ed) (pass_first (checks_of lengths) (la, (lr, (lm, (lf, tt))))) in
       record {
         sound = check_sound network.language (pass_first ((count_case network.language).check ∷ (limit_case network.language).check ∷ []) (ec, (el, tt)));
-        law_d_lem = unless_passes (test_d cs) (Law 1 0) u_d;
-        law_u_lem = unless_passes (test_u cs) (Law 2 0) u_u;
-        law_c_lem = law_c_passed (mode_meant T) cs u_c;
+        law_d_holds = unless_passes (test_d cs) (Law 1 0) u_d;
+        law_u_holds = unless_passes (test_u cs) (Law 2 0) u_u;
+        law_c_holds = law_c_passed (mode_meant T) cs u_c;
         formed = firsts_formed (mode_meant T) cs n m arcs routes mapping w.in_arcs w.in_routes w.in_mapping (pass_first (firsts (mode_meant T) cs n m arcs routes mapping) (u_c, (wa, (wr, (wm, tt)))));
       }
 

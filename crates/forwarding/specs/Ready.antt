@@ -16,8 +16,8 @@ use Rattle.table_guards.specs.Checks.{law_c_check, mapping_case, solves_case}
 pub record Measured (cs : List Component) (n m : ℕ) (a r mapping : List ℕ) : Type 0 where
   pub limits : SmallLimits 65535 cs
   pub sound : Sound cs
-  pub law_d_lem : test_d cs ≡ true
-  pub law_u_lem : test_u cs ≡ true
+  pub law_d_holds : test_d cs ≡ true
+  pub law_u_holds : test_u cs ≡ true
   pub in_arcs : Square n a
   pub in_routes : Square n r
   pub in_mapping : Sized n m mapping

@@ -62,8 +62,8 @@ module _ (l : Language) (sizes lengths : Check) where
             placed = placed;
             limits = small;
             sound = subst Sound (sym placed) (sound_pad places (components_of l) (check_sound l el));
-            law_d_lem = laws.0;
-            law_u_lem = laws.1;
+            law_d_holds = laws.0;
+            law_u_holds = laws.1;
           };
         }
 

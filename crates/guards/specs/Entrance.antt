@@ -33,8 +33,8 @@ pub record Placed (l : Language) (p : Places) : Type 0 where
   pub placed : places_of p ≡ padded places (components_of l)
   pub limits : SmallLimits 65535 (places_of p)
   pub sound : Sound (places_of p)
-  pub law_d_lem : test_d (places_of p) ≡ true
-  pub law_u_lem : test_u (places_of p) ≡ true
+  pub law_d_holds : test_d (places_of p) ≡ true
+  pub law_u_holds : test_u (places_of p) ≡ true
 
 -- every check has passed
 pub record Entered (l : Language) (sizes lengths : Check) (p : Places) : Type 0 where

@@ -71,8 +71,8 @@ module _ (N : OnNetwork) (standing newer : List ℕ) (i : ℕ) {found in_arcs in
             arcs = record {
               limits = s.limits;
               sound = s.sound;
-              law_d_lem = s.law_d_lem;
-              law_u_lem = s.law_u_lem;
+              law_d_holds = s.law_d_holds;
+              law_u_holds = s.law_u_holds;
               arcs = check_formed 1 arc_sum (places_of p) n arcs squares.0 (sym qa ∙ h.0);
             };
             new_square = squares.1;

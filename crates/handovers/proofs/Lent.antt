@@ -40,7 +40,7 @@ use Rattle.guards.proofs.Entering.{call_exact}
 pub handover_passes : (N : OnNetwork) (standing newer : List ℕ) (i : ℕ) → LawfulNetwork N → length newer ≡ N.n * (N.n * weight_words) → length standing ≡ N.n * (N.n * weight_words) → i < N.n → handover_check N standing newer i ≡ Passed
 handover_passes N standing newer i g e f h =
     pass_first (checks_of (handover_cases N standing newer i))
-    (g.nodes, (g.count, (g.sound, (g.long, (sym (length_same 2 N.n newer e), (sym (length_same 5 N.n standing f), (g.law_d_lem, (g.law_u_lem, (g.arcs, (sym (node_in 0 N.n i h), tt))))))))))
+    (g.nodes, (g.count, (g.sound, (g.long, (sym (length_same 2 N.n newer e), (sym (length_same 5 N.n standing f), (g.law_d_holds, (g.law_u_holds, (g.arcs, (sym (node_in 0 N.n i h), tt))))))))))
 
 module _ (N : OnNetwork) (standing newer : List ℕ) (i : ℕ) where
   open N use {n, arcs}
@@ -102,7 +102,7 @@ module _ (N : OnNetwork) (standing newer : List ℕ) (i : ℕ) where
     pub handover_lawful : LawfulNetwork N
     handover_lawful =
         let h = first_passes (checks_of (handover_cases N standing newer i)) p in
-        record { nodes = h.0; count = h.1.0; sound = h.1.1.0; long = h.1.1.1.0; law_d_lem = h.1.1.1.1.1.1.0; law_u_lem = h.1.1.1.1.1.1.1.0; arcs = h.1.1.1.1.1.1.1.1.0; limits = limits }
+        record { nodes = h.0; count = h.1.0; sound = h.1.1.0; long = h.1.1.1.0; law_d_holds = h.1.1.1.1.1.1.0; law_u_holds = h.1.1.1.1.1.1.1.0; arcs = h.1.1.1.1.1.1.1.1.0; limits = limits }
 
     -- The new matrix's row is lent where every entry of it is the best ..
     pub best_lends_new : EveryEntryBest N newer → lent_row N standing newer i ≡ row_part n i newer
@@ -127,7 +127,7 @@ module _ (N : OnNetwork) (r : List ℕ) (b : HistoryBegun N r) (lists : List (Li
   known : LawfulNetwork N
   known =
       let h = first_passes (checks_of (fresh_cases N.language n r)) b.fresh_done in
-      record { nodes = h.0; count = h.1.0; sound = h.1.1.0; long = b.arcs_long; law_d_lem = h.1.1.1.1.0; law_u_lem = h.1.1.1.1.1.0; arcs = b.arcs_formed; limits = b.limits }
+      record { nodes = h.0; count = h.1.0; sound = h.1.1.0; long = b.arcs_long; law_d_holds = h.1.1.1.1.0; law_u_holds = h.1.1.1.1.1.0; arcs = b.arcs_formed; limits = b.limits }
 
   history_formed : Formed matrix_sum (components N) n newer
   history_formed =

@@ -39,7 +39,7 @@ use Rattle.guards.specs.OnNetwork.{OnNetwork, components, matrix_on, arcs_on}
 pub call_lawful : (N : OnNetwork) (r : List ℕ) (rest : List Case) → SmallLimits 65535 (components N) → check_of (matrices_cases N r rest) ≡ Passed → LawfulNetwork N
 call_lawful N r rest limits p =
     let h = first_passes (checks_of (matrices_cases N r rest)) p in
-    record { nodes = h.0; count = h.1.0; sound = h.1.1.0; long = h.1.1.1.0; law_d_lem = h.1.1.1.1.1.0; law_u_lem = h.1.1.1.1.1.1.0; arcs = h.1.1.1.1.1.1.1.0; limits = limits }
+    record { nodes = h.0; count = h.1.0; sound = h.1.1.0; long = h.1.1.1.0; law_d_holds = h.1.1.1.1.1.0; law_u_holds = h.1.1.1.1.1.1.0; arcs = h.1.1.1.1.1.1.1.0; limits = limits }
 
 module _ (N : OnNetwork) (g : LawfulNetwork N) where
   open N use {n, arcs}
@@ -54,10 +54,10 @@ module _ (N : OnNetwork) (g : LawfulNetwork N) where
   nodes_few = nodes_passed n g.nodes
 
   pub D : test_d cs ≡ true
-  D = unless_passes (test_d cs) (Law 1 0) g.law_d_lem
+  D = unless_passes (test_d cs) (Law 1 0) g.law_d_holds
 
   pub U : test_u cs ≡ true
-  U = unless_passes (test_u cs) (Law 2 0) g.law_u_lem
+  U = unless_passes (test_u cs) (Law 2 0) g.law_u_holds
 
   pub S : Sound cs
   S = (limits_exact cs).0 g.sound

@@ -44,8 +44,8 @@ pub record LawfulNetwork (N : OnNetwork) : Type 0 where
   pub count : (count_case N.language).check ≡ Passed
   pub sound : (limit_case N.language).check ≡ Passed
   pub long : (length_case 1 N.n N.arcs).check ≡ Passed
-  pub law_d_lem : (law_d_case (components N)).check ≡ Passed
-  pub law_u_lem : (law_u_case (components N)).check ≡ Passed
+  pub law_d_holds : (law_d_case (components N)).check ≡ Passed
+  pub law_u_holds : (law_u_case (components N)).check ≡ Passed
   pub arcs : (arcs_case (components N) N.n N.arcs).check ≡ Passed
   pub limits : SmallLimits 65535 (components N)
 

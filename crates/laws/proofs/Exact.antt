@@ -5,7 +5,7 @@ use mathlib.Core.Path.{◌≡◌, refl, sym, ap, ◌∙◌}
 use mathlib.Core.Bool.{Bool, true, false}
 use mathlib.Core.List.{List, []}
 use mathlib.Core.Logic.{◌↔◌}
-use Rattle.refusals.specs.Told.{told, done}
+use Rattle.refusals.specs.Told.{done}
 use Rattle.refusals.specs.declared.Check.{Check}
 use Rattle.refusals.specs.declared.Check.TheVariants.{Passed, Refused}
 use Rattle.refusals.proofs.OneToOne.{told_one, told_not_done}

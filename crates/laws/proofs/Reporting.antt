@@ -14,7 +14,6 @@ use Rattle.weights.specs.Sizes.{places, weight_words}
 use Rattle.weights.specs.Weights.{unit_values}
 use Rattle.weights.specs.Laws.{lossy, is_gain, non_trivial, test_d, test_u, test_c, worst, worse_of_two, better_of_two, s_d, x_d, y_d, x_u, s_c}
 use Rattle.weights.specs.Languages.{components_of, language_check, padded, places_of}
-use Rattle.weights.specs.Words.{filled}
 use Rattle.weights.proofs.Padding.{filled_twice, unit_pad, test_d_pad, test_u_pad, test_c_pad, s_d_pad, x_d_pad, y_d_pad, x_u_pad, s_c_pad}
 use Rattle.weights.proofs.Checking.{few}
 use Rattle.laws.specs.declared.Words.{Words}

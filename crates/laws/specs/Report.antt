@@ -1,6 +1,6 @@
 -- The law report (01, "The three laws"; refusals 5 and 4): the whole row of the answer.
 -- To be believed: all of it.
-use Rattle.std.specs.Prelude.{ℕ, Bool, true, false, cond, List, [], ◌∷◌}
+use Rattle.std.specs.Prelude.{ℕ, Bool, false, cond, List, [], ◌∷◌}
 use Rattle.refusals.specs.declared.Told.{Told}
 use Rattle.refusals.specs.Told.{told, done}
 use Rattle.refusals.specs.declared.Check.{Check}

@@ -97,8 +97,8 @@ module _ (p : Places) (n : ℕ) (a r : List ℕ) (g : Given (places_of p) n a r)
   given_again R r' h e = record {
     limits = g.limits;
     sound = g.sound;
-    law_d_lem = g.law_d_lem;
-    law_u_lem = g.law_u_lem;
+    law_d_holds = g.law_d_holds;
+    law_u_holds = g.law_u_holds;
     arcs = g.arcs;
     routes = subst (Formed matrix_sum (places_of p) n) (sym e) (stands_formed p n R g.routes.square.few h);
   }

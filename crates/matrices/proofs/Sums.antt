@@ -127,14 +127,14 @@ most_fits cs w h = largest_fits cs w (most_largest matrix_sum cs w h)
 
 -- what a settle step is given, without its routes
 pub arcs_of_lem : (p : Places) (n : ℕ) (a r : List ℕ) → Given (places_of p) n a r → GivenArcs (places_of p) n a
-arcs_of_lem p n a r g = record { limits = g.limits; sound = g.sound; law_d_lem = g.law_d_lem; law_u_lem = g.law_u_lem; arcs = g.arcs }
+arcs_of_lem p n a r g = record { limits = g.limits; sound = g.sound; law_d_holds = g.law_d_holds; law_u_holds = g.law_u_holds; arcs = g.arcs }
 
 module _ (p : Places) (n : ℕ) (a : List ℕ) (g : GivenArcs (places_of p) n a) where
   -- well-formed arcs of a lawful language are a network
   unfoldable pub network : Network
   network = record {
     𝓐 = language (places_of p);
-    𝓛 = lawful (places_of p) g.sound g.law_d_lem g.law_u_lem;
+    𝓛 = lawful (places_of p) g.sound g.law_d_holds g.law_u_holds;
     n = n;
     A = matrix_in places n a;
     arcs_valid = formed_valid arc_sum p n a g.arcs;

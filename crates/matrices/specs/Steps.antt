@@ -59,15 +59,15 @@ solves cs n A R = every n (row_solves cs n A R)
 pub record GivenArcs (cs : List Component) (n : ℕ) (a : List ℕ) : Type 0 where
   pub limits : SmallLimits 65535 cs
   pub sound : Sound cs
-  pub law_d_lem : test_d cs ≡ true
-  pub law_u_lem : test_u cs ≡ true
+  pub law_d_holds : test_d cs ≡ true
+  pub law_u_holds : test_u cs ≡ true
   pub arcs : Formed arc_sum cs n a
 
 -- What the inner functions are given: a lawful language with small limits, and well-formed matrices.
 pub record Given (cs : List Component) (n : ℕ) (a r : List ℕ) : Type 0 where
   pub limits : SmallLimits 65535 cs
   pub sound : Sound cs
-  pub law_d_lem : test_d cs ≡ true
-  pub law_u_lem : test_u cs ≡ true
+  pub law_d_holds : test_d cs ≡ true
+  pub law_u_holds : test_u cs ≡ true
   pub arcs : Formed arc_sum cs n a
   pub routes : Formed matrix_sum cs n r

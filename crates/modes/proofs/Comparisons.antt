@@ -10,7 +10,7 @@ use native.Mathlib.Omega.{arith}
 use Rattle.algebra.specs.Order.{Order, Ordered}
 use Rattle.algebra.specs.Algebra.{order}
 use Rattle.weights.specs.declared.Component.{Component}
-use Rattle.weights.specs.Weights.{Weight, Valid, better, language}
+use Rattle.weights.specs.Weights.{Weight, Valid, language}
 use Rattle.weights.proofs.Languages.{ordered}
 use Rattle.modes.specs.declared.Mode.{Mode}
 use Rattle.modes.specs.declared.Mode.TheVariants.{Plain, Hot, Cold}

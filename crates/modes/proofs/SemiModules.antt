@@ -73,7 +73,7 @@ module _ (allowed : ℕ → Type 0) (cs : List Component) (𝓛 : Lawful (langua
   weight_suited one = record {
     orderly = weight_orderly allowed cs one;
     one_t = λ x y t vx vy vt e. e;
-    joined = λ ss xs t ys u vs vx vt vy vu. 𝓛.law_d_lem (route ss) (route xs) (route ys) vs vx vy;
+    joined = λ ss xs t ys u vs vx vt vy vu. 𝓛.law_d_holds (route ss) (route xs) (route ys) vs vx vy;
   }
 
   module _ (better_t : ℕ → ℕ → Bool) (𝓣 : Ordered (numbers allowed better_t)) where
@@ -92,7 +92,7 @@ module _ (allowed : ℕ → Type 0) (cs : List Component) (𝓛 : Lawful (langua
             let y : Weight = route ys in
             let s : Weight = route ss in
             let (a, b) = then_split (better cs y x) (better cs x y) (better_t u t) e in
-            let d : better cs (join cs s y) (join cs s x) ≡ false = 𝓛.law_d_lem s x y vs vx vy a in
+            let d : better cs (join cs s y) (join cs s x) ≡ false = 𝓛.law_d_holds s x y vs vx vy a in
             then_make (better cs (join cs s y) (join cs s x)) (better cs (join cs s x) (join cs s y)) (better_t u t) d
             (λ h. b (subst (λ (z : Weight). better cs x z ≡ false) (law s x y vs vx vy (𝓛.ordered.antisym (join cs s x) (join cs s y) (𝓛.join_valid s x vs vx) (𝓛.join_valid s y vs vy) d h) tt) (𝓛.ordered.self x vx)))
 
@@ -103,7 +103,7 @@ module _ (allowed : ℕ → Type 0) (cs : List Component) (𝓛 : Lawful (langua
       one_t = λ x y t vx vy vt e. then_make (better_t t t) (better_t t t) (better cs y x) (𝓣.self t vt) (λ h. e);
       joined = λ ss xs t ys u vs vx vt vy vu e.
           let (a, b) = then_split (better_t u t) (better_t t u) (better cs (route ys) (route xs)) e in
-          then_make (better_t u t) (better_t t u) (better cs (join cs (route ss) (route ys)) (join cs (route ss) (route xs))) a (λ h. 𝓛.law_d_lem (route ss) (route xs) (route ys) vs vx vy (b h));
+          then_make (better_t u t) (better_t t u) (better cs (join cs (route ss) (route ys)) (join cs (route ss) (route xs))) a (λ h. 𝓛.law_d_holds (route ss) (route xs) (route ys) vs vx vy (b h));
     }
 
 -- ---- a comparison that suits gives a mode of forwarding
@@ -145,7 +145,7 @@ module _ (allowed : ℕ → Type 0) (cs : List Component) (𝓛 : Lawful (langua
       worse =
           ap (λ (x : Weight). better cs x (join cs (route xs) (route ys))) (𝓛.commutes (route zs) (route ys) vw ve.0)
           ∙ ap (better cs (join cs (route ys) (route zs))) (𝓛.commutes (route xs) (route ys) vv ve.0)
-          ∙ 𝓛.law_d_lem (route ys) (route xs) (route zs) ve.0 vv vw p
+          ∙ 𝓛.law_d_holds (route ys) (route xs) (route zs) ve.0 vv vw p
 
   pub suited_mode : SemiModule (language cs) (mode_by allowed cs c)
   suited_mode = record {

@@ -66,8 +66,8 @@ hot_onward = refl
 -- D and U hold here, and hot fails for want of law C.
 pub hot_needs_c : HotBreaks wide 3 1 line routes ends
 hot_needs_c = record {
-  law_d_lem = d_holds wide refl;
-  law_u_lem = u_holds wide refl;
+  law_d_holds = d_holds wide refl;
+  law_u_holds = u_holds wide refl;
   no_law_c = (route (1 ∷ []), route (10 ∷ []), route (1 ∷ []), c_broken wide (omega arith, tt) refl);
   arcs_valid = line_valid;
   table_valid = ends_valid;

@@ -12,8 +12,8 @@ use Rattle.modes.specs.Entries.{Entry, mode_of}
 
 -- D and U hold and C is broken, R satisfies the routing equation, and F does not satisfy F = (A applied to F) best M.
 pub record HotBreaks (cs : List Component) (n m : ℕ) (A R : Matrix (language cs)) (M : ℕ → ℕ → Entry) : Type 0 where
-  pub law_d_lem : LawD cs
-  pub law_u_lem : LawU cs
+  pub law_d_holds : LawD cs
+  pub law_u_holds : LawU cs
   pub no_law_c : (s : Weight) × (x : Weight) × (y : Weight) × BreaksC cs s x y
   pub arcs_valid : ValidMatrix (language cs) n A
   pub table_valid : ValidTable (language cs) (mode_of Hot cs) n m M

@@ -125,8 +125,8 @@ module _ (N : OnNetwork) (r : List ℕ) {found in_arcs in_routes measured : Chec
             record {
               limits = s.limits;
               sound = s.sound;
-              law_d_lem = s.law_d_lem;
-              law_u_lem = s.law_u_lem;
+              law_d_holds = s.law_d_holds;
+              law_u_holds = s.law_u_holds;
               arcs = check_formed 1 arc_sum (places_of p) n arcs squares.0 (sym qa ∙ h.0);
               routes = check_formed 2 matrix_sum (places_of p) n r squares.1 (sym qr ∙ h.1);
             },

@@ -9,7 +9,7 @@ use lib.Dec.{eqb}
 use borrow.Author.Tests.{eqb-true, eqb-false, not-true, not-false}
 use Rattle.weights.specs.declared.Component.{Component}
 use Rattle.weights.specs.declared.Component.TheVariants.{Dist, Width, Class, Gain}
-use Rattle.weights.specs.Weights.{Weight, none, route, Valid, ValidValues, ValidValue, Sound, SoundLimit, better, better_values, join, join_values, join_value, unit, unit_values, unit_value, better_of, IsRoute, trivial}
+use Rattle.weights.specs.Weights.{Weight, none, route, Valid, ValidValues, ValidValue, Sound, SoundLimit, better, better_values, join, join_values, join_value, unit, unit_values, unit_value, better_of, IsRoute}
 use Rattle.weights.specs.Laws.{LawD, LawU, LawC, lossy, is_gain, non_trivial, some_non_trivial, lossy_before, test_d, test_u, test_c, worst, worse_of_two, better_of_two, at_first, s_d, x_d, y_d, x_u, s_c, BreaksD, BreaksU, BreaksC}
 use Rattle.weights.proofs.Ordering.{NoWorse, Lt1, Three, ahead, level, behind, three1, lt_ne, mono1, unit_valid1, head_ahead, head_behind, head_level, clash, irrefl_v, unit_join_values, join_valid_v, unit_valid_v, irrefl, asym, total, antisym, join_valid, better_of_first, better_of_second, ThreeW, before, equal, after}
 

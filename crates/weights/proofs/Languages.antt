@@ -42,8 +42,8 @@ lawful cs s d u = record {
   associates = λ x y z vx vy vz. join_assoc cs x y z;
   neutral = join_unit cs;
   absorbs = λ x v. absorbs_none cs x;
-  law_d_lem = monotone cs d;
-  law_u_lem = u_holds cs u;
+  law_d_holds = monotone cs d;
+  law_u_holds = u_holds cs u;
 }
 
 -- by the laws themselves, over all weights

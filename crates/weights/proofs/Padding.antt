@@ -10,7 +10,7 @@ use lib.ListN.{length}
 use Rattle.algebra.proofs.Embedding.{Embedding}
 use Rattle.weights.specs.declared.Component.{Component}
 use Rattle.weights.specs.declared.Component.TheVariants.{Class}
-use Rattle.weights.specs.Weights.{Weight, none, route, Valid, ValidValues, Sound, better_value, better_values, join_value, join_values, unit_value, unit_values, better, join, unit, language}
+use Rattle.weights.specs.Weights.{Weight, none, route, Valid, ValidValues, Sound, better_value, better_values, join_value, join_values, unit_value, unit_values, better, join, language}
 use Rattle.weights.specs.Laws.{lossy, is_gain, non_trivial, some_non_trivial, lossy_before, test_d, test_u, test_c, worst, worse_of_two, better_of_two, at_first, s_d, x_d, y_d, x_u, s_c}
 use Rattle.weights.specs.Languages.{padded}
 use Rattle.weights.specs.Words.{filled, words}

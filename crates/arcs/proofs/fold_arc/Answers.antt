@@ -1,17 +1,13 @@
-use Prim.Native.Nat.{ℕ, ◌+◌, ◌*◌, ◌-◌, ◌≤◌}
+use Prim.Native.Nat.{◌+◌, ◌*◌, ◌≤◌}
 use mathlib.Core.Path.{◌≡◌, refl, sym, ◌∙◌, subst}
-use mathlib.Core.List.{List}
 use native.Mathlib.Omega.{arith}
 use lib.ListN.{length}
-use Rattle.weights.specs.declared.Places.{Places}
-use Rattle.weights.specs.declared.Weight as declared
-use Rattle.weights.specs.Sizes.{places, weight_words, matrix_sum}
+use Rattle.weights.specs.Sizes.{weight_words, matrix_sum}
 use Rattle.weights.specs.Languages.{places_of}
 use Rattle.weights.specs.Values.{weight_of, AtMost}
-use Rattle.weights.specs.Words.{words}
-use Rattle.matrices.specs.Buffers.{entry_place, row_in, matrix_in}
-use Rattle.matrices.specs.Parts.{folded, FirstAlone}
-use Rattle.matrices.proofs.Blocks.{place_room, Filled, filled_none, filled_put, filled_is, filled_rest}
+use Rattle.matrices.specs.Buffers.{entry_place}
+use Rattle.matrices.specs.Parts.{FirstAlone}
+use Rattle.matrices.proofs.Blocks.{place_room, filled_none, filled_put, filled_is, filled_rest}
 use Rattle.matrices.proofs.Entries.{row_room, length_words, cell_is, cell_drop, fold_one}
 use Rattle.arcs.proofs.fold_arc.Invariants.{block}
 use Rattle.arcs.proofs.fold_arc.Goals as goal
@@ -31,15 +27,15 @@ pub weight_at-y-requires : goal.weight_at-y-requires
 weight_at-y-requires c = omega (arith, place_room c.args.n c.args.k c.loop-j.j c.requires.square.1 c.loop-j-test.true, c.requires.square.0.long)
 
 pub relax_at-requires : goal.relax_at-requires
-relax_at-requires c = let hj = c.loop-j-test.true in     let e = cell_is c.args.r.now (entry_place c.args.n c.args.k c.loop-j.j) ∙ sym c.weight_at-y.ensures in (
-      omega arith,
-      c.requires.square.3,
-      subst (AtMost matrix_sum) e (c.requires.by_index c.loop-j.j hj),
-      λ t. subst (FirstAlone (places_of c.args.p) (weight_of c.args.x)) e (c.requires.first_alone t c.loop-j.j hj),
-    )
+relax_at-requires c = let hj = c.loop-j-test.true in let e = cell_is c.args.r.now (entry_place c.args.n c.args.k c.loop-j.j) ∙ sym c.weight_at-y.ensures in (
+  omega arith,
+  c.requires.square.3,
+  subst (AtMost matrix_sum) e (c.requires.by_index c.loop-j.j hj),
+  λ t. subst (FirstAlone (places_of c.args.p) (weight_of c.args.x)) e (c.requires.first_alone t c.loop-j.j hj),
+)
 
 pub loop-j-preserved : goal.loop-j-preserved
-loop-j-preserved c = let u = c.loop-j.row in     let q = c.loop-j.j * weight_words in
+loop-j-preserved c = let u = c.loop-j.row in let q = c.loop-j.j * weight_words in
     let b = block c.args.p c.args.x c.args.r.now c.args.n c.args.k c.args.row.now in (
       omega arith,
       refl,

@@ -1,18 +1,15 @@
-use Prim.Native.Nat.{ℕ, ◌+◌, ◌*◌, ◌-◌, ◌≤◌}
-use mathlib.Core.Path.{◌≡◌, refl, sym, ◌∙◌, subst}
+use Prim.Native.Nat.{ℕ, ◌*◌, ◌-◌, ◌≤◌}
+use mathlib.Core.Path.{◌≡◌}
 use mathlib.Core.List.{List}
-use native.Mathlib.Omega.{arith}
-use lib.ListN.{length}
 use Rattle.weights.specs.declared.Places.{Places}
 use Rattle.weights.specs.declared.Weight as declared
-use Rattle.weights.specs.Sizes.{places, weight_words, matrix_sum}
+use Rattle.weights.specs.Sizes.{places, weight_words}
 use Rattle.weights.specs.Languages.{places_of}
-use Rattle.weights.specs.Values.{weight_of, AtMost}
+use Rattle.weights.specs.Values.{weight_of}
 use Rattle.weights.specs.Words.{words}
-use Rattle.matrices.specs.Buffers.{entry_place, row_in, matrix_in}
-use Rattle.matrices.specs.Parts.{folded, FirstAlone}
-use Rattle.matrices.proofs.Blocks.{place_room, Filled, filled_none, filled_put, filled_is, filled_rest}
-use Rattle.matrices.proofs.Entries.{row_room, length_words, cell_is, cell_drop, fold_one}
+use Rattle.matrices.specs.Buffers.{row_in, matrix_in}
+use Rattle.matrices.specs.Parts.{folded}
+use Rattle.matrices.proofs.Blocks.{Filled}
 use Rattle.arcs.proofs.fold_arc.Given as goal
 
 abbrev pub block : Places → declared.Weight → List ℕ → ℕ → ℕ → List ℕ → ℕ → List ℕ

@@ -1,5 +1,4 @@
 use mathlib.Core.Bool.{false≢true}
-use borrow.Author.Tests.{not-false}
 use Rattle.arcs.proofs.is_single.Goals as goal
 
 pub returns-then-not-is_unused : goal.returns-then-not-is_unused

@@ -1,6 +1,5 @@
 use native.Mathlib.Omega.{arith}
 use Rattle.decimals.proofs.Putting.{length_one, length_more, put_digit, put_last}
-use Prim.Native.Nat.{ℕ, ◌<◌}
 use Rattle.decimals.proofs.+put_digits.Goals as goal
 
 pub bounds-out-at : goal.bounds-out-at

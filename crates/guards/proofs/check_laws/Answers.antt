@@ -1,5 +1,4 @@
 use mathlib.Core.Path.{sym, ◌∙◌}
-use borrow.Author.Tests.{not-true, not-false}
 use Rattle.guards.proofs.check_laws.Goals as goal
 
 pub returns-then-not-has_d : goal.returns-then-not-has_d

@@ -7,4 +7,4 @@ pub returns-then-some_flag : goal.returns-then-some_flag
 returns-then-some_flag c = broken_c (places_of c.args.p) c.lossy_flags-l.ensures c.some_flag.ensures _ c.if-some_flag.true c.units-u.ensures c.worst_words-v.ensures c.over_at-s.ensures refl refl
 
 pub returns : goal.returns
-returns c = let zero = c.zeros-z.ensures in     held_c (places_of c.args.p) c.lossy_flags-l.ensures c.some_flag.ensures _ c.if-some_flag.false zero zero zero refl
+returns c = let zero = c.zeros-z.ensures in held_c (places_of c.args.p) c.lossy_flags-l.ensures c.some_flag.ensures _ c.if-some_flag.false zero zero zero refl

@@ -1,5 +1,4 @@
 use mathlib.Core.Path.{sym, ◌∙◌}
-use borrow.Author.Tests.{not-true, not-false}
 use Rattle.weights.proofs.Checking.{count_low, count_high, places_check, bad_first, bad_second, bad_third, bad_fourth, bad_none}
 use Rattle.placing.proofs.check.Goals as goal
 

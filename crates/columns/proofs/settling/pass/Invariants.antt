@@ -1,13 +1,7 @@
-use Prim.Native.Nat.{◌*◌, ◌-◌, ◌≤◌}
-use mathlib.Core.Path.{◌≡◌, refl, sym, ◌∙◌}
+use Prim.Native.Nat.{◌-◌, ◌≤◌}
+use mathlib.Core.Path.{◌≡◌}
 use mathlib.Core.Bool.{false}
-use mathlib.Core.Logic.{⊎_elim}
-use native.Mathlib.Omega.{arith}
-use lib.ListN.{length}
-use Rattle.weights.specs.Sizes.{weight_words}
-use Rattle.weights.proofs.Ordering.{clash}
-use Rattle.matrices.proofs.Entries.{row_whole}
-use Rattle.columns.proofs.Passes.{Passing, passing_none, passing_held, passing_more, passing_all}
+use Rattle.columns.proofs.Passes.{Passing}
 use Rattle.columns.proofs.settling.pass.Given as goal
 
 abbrev pub invariant-loop-i : goal.invariant-loop-i

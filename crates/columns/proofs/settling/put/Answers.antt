@@ -7,8 +7,11 @@ use Rattle.matrices.proofs.Entries.{cell_is, keep_is, write_is}
 use Rattle.columns.proofs.settling.put.Goals as goal
 
 pub returns-then-same : goal.returns-then-same
-returns-then-same c = record { entries_unchanged = λ _. refl; entries_after = keep_is c.args.entries.now c.args.at (weight_of c.args.w) c.requires
-          ((same_exactly (weight_of c.args.w) _).0 (sym c.same.ensures ∙ c.if-same.true) ∙ c.weight_at-old.ensures ∙ sym (cell_is c.args.entries.now c.args.at)) }
+returns-then-same c = record {
+  entries_unchanged = λ _. refl;
+  entries_after = keep_is c.args.entries.now c.args.at (weight_of c.args.w) c.requires
+      ((same_exactly (weight_of c.args.w) _).0 (sym c.same.ensures ∙ c.if-same.true) ∙ c.weight_at-old.ensures ∙ sym (cell_is c.args.entries.now c.args.at));
+}
 
 pub returns : goal.returns
 returns c = record { entries_unchanged = λ e. clash true refl e; entries_after = c.write_at.ensures ∙ write_is c.args.entries.now c.args.at (weight_of c.args.w) c.requires }

@@ -1,20 +1,14 @@
-use Prim.Native.Nat.{◌+◌, ◌*◌, ◌-◌, ◌≤◌}
-use mathlib.Core.Path.{◌≡◌, refl, sym, ◌∙◌, subst}
-use native.Mathlib.Omega.{arith}
-use lib.ListN.{length}
+use Prim.Native.Nat.{◌*◌, ◌-◌, ◌≤◌}
+use mathlib.Core.Path.{◌≡◌}
 use Rattle.algebra.specs.Algebra.{order}
 use Rattle.algebra.specs.Order.{best_of}
 use Rattle.algebra.specs.Step.{fresh}
-use Rattle.weights.specs.Sizes.{places, weight_words, arc_sum}
+use Rattle.weights.specs.Sizes.{places, weight_words}
 use Rattle.weights.specs.Weights.{language}
 use Rattle.weights.specs.Languages.{places_of}
-use Rattle.weights.specs.Values.{weight_of, AtMost}
-use Rattle.matrices.specs.Buffers.{entry_place, row_in, matrix_in}
+use Rattle.weights.specs.Values.{weight_of}
+use Rattle.matrices.specs.Buffers.{row_in, matrix_in}
 use Rattle.columns.specs.Columns.{via}
-use Rattle.matrices.proofs.Blocks.{place_room}
-use Rattle.matrices.proofs.Entries.{row_room, cell_is}
-use Rattle.matrices.proofs.Bounds.{formed_most}
-use Rattle.columns.proofs.Passes.{renewed_none, renewed_more, renewed_all}
 use Rattle.columns.proofs.settling.renew.Given as goal
 
 abbrev pub invariant-loop-k : goal.invariant-loop-k

@@ -1,10 +1,7 @@
-use Prim.Native.Nat.{◌+◌, ◌*◌, ◌-◌, ◌≤◌}
+use Prim.Native.Nat.{◌+◌, ◌-◌, ◌≤◌}
 use mathlib.Core.Path.{refl, sym, ◌∙◌}
 use native.Mathlib.Omega.{arith}
-use borrow.Author.Tests.{not-true}
-use lib.ListN.{length}
-use Rattle.weights.specs.Sizes.{weight_words}
-use Rattle.columns.proofs.Passes.{Settling, settling_none, settling_held, settling_more, settling_next, settling_still, settling_all}
+use Rattle.columns.proofs.Passes.{settling_none, settling_held, settling_more, settling_next, settling_still, settling_all}
 use Rattle.columns.proofs.settling.settle_column.Goals as goal
 
 pub fresh_row-requires : goal.fresh_row-requires
@@ -19,7 +16,7 @@ pass-requires c = (c.requires.0, settling_held c.args.p c.args.n c.args.a.now c.
 
 -- the pass changed nothing, so the passes that are left would not either
 pub returns-then-not-pass : goal.returns-then-not-pass
-returns-then-not-pass c = let q = c.pass.ensures in     let still = q.entries_unchanged c.if-not-pass.true in
+returns-then-not-pass c = let q = c.pass.ensures in let still = q.entries_unchanged c.if-not-pass.true in
     let k = c.loop-t.t - 1 in
     let r = settling_still c.args.p c.args.n c.args.a.now c.requires.0 c.args.j _ c.loop-t.invariant.1 k c.loop-t.entries c.loop-t.invariant.2 (sym still ∙ q.entries_after) c.args.n in
     still ∙ settling_all c.args.p c.args.n c.args.a.now c.requires.0 c.args.j c.args.entries.now _ (c.args.n + k) c.loop-t.entries r (omega arith) c.fresh_row.ensures
@@ -30,11 +27,11 @@ overflow_add-t c = let few : c.args.n ≤ 16 = c.requires.0.arcs.square.few in
 
 pub loop-t-preserved : goal.loop-t-preserved
 loop-t-preserved c = (
-      omega arith,
-      c.loop-t.invariant.1,
-      settling_next c.args.p c.args.n c.args.a.now c.args.j _ c.loop-t.t _ c.loop-t.invariant.0
-          (settling_more c.args.p c.args.n c.args.a.now c.requires.0 c.args.j _ c.loop-t.invariant.1 (c.loop-t.t - 1) c.loop-t.entries _ c.loop-t.invariant.2 c.pass.ensures.entries_after),
-    )
+  omega arith,
+  c.loop-t.invariant.1,
+  settling_next c.args.p c.args.n c.args.a.now c.args.j _ c.loop-t.t _ c.loop-t.invariant.0
+      (settling_more c.args.p c.args.n c.args.a.now c.requires.0 c.args.j _ c.loop-t.invariant.1 (c.loop-t.t - 1) c.loop-t.entries _ c.loop-t.invariant.2 c.pass.ensures.entries_after),
+)
 
 pub returns : goal.returns
 returns c = settling_all c.args.p c.args.n c.args.a.now c.requires.0 c.args.j c.args.entries.now _ (c.loop-t.t - 1) c.loop-t.entries c.loop-t.invariant.2 (omega arith) c.fresh_row.ensures

@@ -1,10 +1,7 @@
-use Prim.Native.Nat.{◌+◌, ◌*◌, ◌-◌, ◌≤◌}
-use mathlib.Core.Path.{refl, sym, ◌∙◌}
-use native.Mathlib.Omega.{arith}
-use borrow.Author.Tests.{not-true}
+use Prim.Native.Nat.{◌*◌, ◌-◌, ◌≤◌}
 use lib.ListN.{length}
 use Rattle.weights.specs.Sizes.{weight_words}
-use Rattle.columns.proofs.Passes.{Settling, settling_none, settling_held, settling_more, settling_next, settling_still, settling_all}
+use Rattle.columns.proofs.Passes.{Settling}
 use Rattle.columns.proofs.settling.settle_column.Given as goal
 
 abbrev pub invariant-loop-t : goal.invariant-loop-t

@@ -17,9 +17,9 @@ returns-in_default c = search rules
 
 pub loses-requires : goal.loses-requires
 loses-requires c = (
-      most_weaken arc_sum 2147483647 (weight_of c.args.x) (lit≤ tt) c.requires.1,
-      subst (AtMost 2147483647) (cell_is c.args.entries.now c.args.at ∙ sym c.weight_at-y.ensures) c.requires.2,
-    )
+  most_weaken arc_sum 2147483647 (weight_of c.args.x) (lit≤ tt) c.requires.1,
+  subst (AtMost 2147483647) (cell_is c.args.entries.now c.args.at ∙ sym c.weight_at-y.ensures) c.requires.2,
+)
 
 pub returns-then-loses : goal.returns-then-loses
 returns-then-loses c = let cs = places_of c.args.p in
@@ -28,9 +28,9 @@ returns-then-loses c = let cs = places_of c.args.p in
 
 pub join-z-requires : goal.join-z-requires
 join-z-requires c = (
-      most_weaken arc_sum 2147483647 (weight_of c.args.x) (lit≤ tt) c.requires.1,
-      subst (AtMost 2147483647) (cell_is c.args.entries.now c.args.at ∙ sym c.weight_at-y.ensures) c.requires.2,
-    )
+  most_weaken arc_sum 2147483647 (weight_of c.args.x) (lit≤ tt) c.requires.1,
+  subst (AtMost 2147483647) (cell_is c.args.entries.now c.args.at ∙ sym c.weight_at-y.ensures) c.requires.2,
+)
 
 pub returns : goal.returns
 returns c = let cs = places_of c.args.p in

@@ -1,13 +1,9 @@
-use Prim.Native.Nat.{◌+◌, ◌*◌, ◌-◌, ◌≤◌}
-use mathlib.Core.Path.{◌≡◌, sym, ap, ◌∙◌}
-use native.Mathlib.Omega.{arith}
+use Prim.Native.Nat.{◌*◌, ◌-◌, ◌≤◌}
+use mathlib.Core.Path.{◌≡◌}
 use lib.ListN.{length}
 use Rattle.weights.specs.Sizes.{places, weight_words}
-use Rattle.weights.specs.Values.{weight_of}
-use Rattle.matrices.specs.Buffers.{matrix_words, entry_place, row_in, matrix_in}
-use Rattle.matrices.proofs.Blocks.{place_room, square_small}
-use Rattle.matrices.proofs.Entries.{cell_is, write_is, matrix_self, length_matrix}
-use Rattle.columns.proofs.Written.{column_to, column_none, column_more, column_all}
+use Rattle.matrices.specs.Buffers.{matrix_words, row_in, matrix_in}
+use Rattle.columns.proofs.Written.{column_to}
 use Rattle.columns.proofs.settling.write_column.Given as goal
 
 abbrev pub invariant-loop-i : goal.invariant-loop-i

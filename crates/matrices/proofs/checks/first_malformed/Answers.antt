@@ -1,10 +1,10 @@
-use Prim.Native.Nat.{◌*◌, ◌-◌, ◌≤◌}
-use mathlib.Core.Path.{◌≡◌, sym, ◌∙◌}
+use Prim.Native.Nat.{◌*◌}
+use mathlib.Core.Path.{sym, ◌∙◌}
 use native.Mathlib.Nat.{sub-zero}
 use native.Mathlib.Omega.{arith}
 use Rattle.weights.specs.Sizes.{weight_words}
 use Rattle.weights.specs.Languages.{places_of}
-use Rattle.matrices.specs.Buffers.{words_at, well_formed, first_malformed, matrix_check}
+use Rattle.matrices.specs.Buffers.{words_at}
 use Rattle.matrices.proofs.Malformed.{first_good, first_bad, first_none, few_entries, entries_words, read_good, read_bad}
 use Rattle.matrices.proofs.checks.first_malformed.Goals as goal
 

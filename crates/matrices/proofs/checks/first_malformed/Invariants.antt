@@ -1,11 +1,8 @@
-use Prim.Native.Nat.{◌*◌, ◌-◌, ◌≤◌}
-use mathlib.Core.Path.{◌≡◌, sym, ◌∙◌}
-use native.Mathlib.Nat.{sub-zero}
-use native.Mathlib.Omega.{arith}
+use Prim.Native.Nat.{◌-◌, ◌≤◌}
+use mathlib.Core.Path.{◌≡◌}
 use Rattle.weights.specs.Sizes.{weight_words}
 use Rattle.weights.specs.Languages.{places_of}
-use Rattle.matrices.specs.Buffers.{words_at, well_formed, first_malformed, matrix_check}
-use Rattle.matrices.proofs.Malformed.{first_good, first_bad, first_none, few_entries, entries_words, read_good, read_bad}
+use Rattle.matrices.specs.Buffers.{well_formed, first_malformed, matrix_check}
 use Rattle.matrices.proofs.checks.first_malformed.Given as goal
 
 abbrev pub invariant-loop-e : goal.invariant-loop-e

@@ -1,15 +1,12 @@
-use Prim.Native.Nat.{ℕ, ◌+◌, ◌*◌, ◌-◌, ◌≤◌}
+use Prim.Native.Nat.{ℕ, ◌*◌, ◌-◌, ◌≤◌}
 use mathlib.Core.List.{List}
-use native.Mathlib.Omega.{arith}
-use lib.ListN.{length, length-drop}
 use Rattle.algebra.specs.Step.{fresh}
 use Rattle.weights.specs.declared.Places.{Places}
 use Rattle.weights.specs.Sizes.{weight_words}
 use Rattle.weights.specs.Weights.{language}
 use Rattle.weights.specs.Languages.{places_of}
 use Rattle.matrices.specs.Buffers.{row_words}
-use Rattle.matrices.proofs.Blocks.{Filled, filled_none, filled_lent, filled_all, block_room, square_small, lent_part}
-use Rattle.matrices.proofs.Entries.{length_row}
+use Rattle.matrices.proofs.Blocks.{Filled}
 use Rattle.matrices.proofs.fresh.fresh.Given as goal
 
 abbrev pub row : Places → ℕ → ℕ → List ℕ

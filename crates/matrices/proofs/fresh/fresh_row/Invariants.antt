@@ -1,16 +1,12 @@
-use Prim.Native.Nat.{ℕ, ◌*◌, ◌-◌, ◌≤◌}
-use mathlib.Core.Path.{◌≡◌, ap, ◌∙◌}
-use mathlib.Core.List.{List, ◌++◌}
-use native.Mathlib.Omega.{arith}
-use lib.ListN.{take, drop}
+use Prim.Native.Nat.{ℕ, ◌-◌, ◌≤◌}
+use mathlib.Core.List.{List}
 use Rattle.algebra.specs.Step.{fresh}
 use Rattle.weights.specs.declared.Places.{Places}
 use Rattle.weights.specs.Sizes.{weight_words}
 use Rattle.weights.specs.Weights.{language}
 use Rattle.weights.specs.Languages.{places_of}
 use Rattle.weights.specs.Words.{words}
-use Rattle.matrices.proofs.Blocks.{Filled, filled_none, filled_put, filled_is}
-use Rattle.matrices.proofs.Entries.{write_is, length_words}
+use Rattle.matrices.proofs.Blocks.{Filled}
 use Rattle.matrices.proofs.fresh.fresh_row.Given as goal
 
 abbrev pub block : Places → ℕ → ℕ → List ℕ

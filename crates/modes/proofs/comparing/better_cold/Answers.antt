@@ -19,5 +19,5 @@ pub returns-then-t-u : goal.returns-then-t-u
 returns-then-t-u c = differ c.args.t c.args.u _ c.if-t-u.true
 
 pub returns : goal.returns
-returns c = let s = c.args in     let e : s.t ≡ s.u = c.if-t-u.false in
+returns c = let s = c.args in let e : s.t ≡ s.u = c.if-t-u.false in
     simp (le-ltb s.t s.u (omega arith), le-ltb s.u s.t (omega arith)) c.better.ensures

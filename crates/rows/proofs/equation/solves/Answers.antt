@@ -1,14 +1,7 @@
-use Prim.Native.Nat.{ℕ, ◌-◌, ◌≤◌}
+use Prim.Native.Nat.{ℕ}
 use mathlib.Core.Path.{◌≡◌, sym, ap, ◌∙◌}
-use mathlib.Core.Bool.{Bool, true}
-use mathlib.Core.List.{List}
 use native.Mathlib.Omega.{arith}
-use borrow.Author.Tests.{not-true, not-false}
-use Rattle.weights.specs.declared.Places.{Places}
-use Rattle.weights.specs.Sizes.{places}
-use Rattle.weights.specs.Languages.{places_of}
-use Rattle.matrices.specs.Buffers.{matrix_in}
-use Rattle.matrices.specs.Steps.{every, row_solves}
+use Rattle.matrices.specs.Steps.{every}
 use Rattle.matrices.proofs.Every.{every_none, every_more, every_false}
 use Rattle.rows.proofs.equation.solves.Invariants.{test}
 use Rattle.rows.proofs.equation.solves.Goals as goal

@@ -1,7 +1,5 @@
 use Prim.Native.Nat.{◌-◌, ◌≤◌}
-use mathlib.Core.Path.{refl}
-use native.Mathlib.Omega.{arith}
-use Rattle.matrices.proofs.Rounds.{Taken, taken_none, taken_more, taken_all}
+use Rattle.matrices.proofs.Rounds.{Taken}
 use Rattle.rows.proofs.stepping.new_row.Given as goal
 
 abbrev pub invariant-loop-k : goal.invariant-loop-k

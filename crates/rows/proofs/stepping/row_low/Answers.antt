@@ -1,8 +1,6 @@
-use Prim.Native.Nat.{ℕ, ◌*◌, ◌-◌, ◌≤◌}
+use Prim.Native.Nat.{ℕ, ◌*◌}
 use mathlib.Core.Path.{◌≡◌, sym, ap, ◌∙◌}
-use mathlib.Core.Bool.{true}
 use native.Mathlib.Omega.{arith}
-use borrow.Author.Tests.{not-true, not-false}
 use Rattle.weights.specs.Sizes.{weight_words}
 use Rattle.matrices.specs.Steps.{every}
 use Rattle.matrices.specs.Parts.{low, low_at}

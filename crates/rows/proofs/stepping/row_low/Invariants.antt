@@ -1,13 +1,8 @@
-use Prim.Native.Nat.{ℕ, ◌*◌, ◌-◌, ◌≤◌}
-use mathlib.Core.Path.{◌≡◌, sym, ap, ◌∙◌}
+use Prim.Native.Nat.{◌-◌, ◌≤◌}
+use mathlib.Core.Path.{◌≡◌}
 use mathlib.Core.Bool.{true}
-use native.Mathlib.Omega.{arith}
-use borrow.Author.Tests.{not-true, not-false}
-use Rattle.weights.specs.Sizes.{weight_words}
 use Rattle.matrices.specs.Steps.{every}
-use Rattle.matrices.specs.Parts.{low, low_at}
-use Rattle.matrices.proofs.Entries.{cell_is}
-use Rattle.matrices.proofs.Every.{every_none, every_more, every_false}
+use Rattle.matrices.specs.Parts.{low_at}
 use Rattle.rows.proofs.stepping.row_low.Given as goal
 
 abbrev pub invariant-loop-j : goal.invariant-loop-j

@@ -1,9 +1,7 @@
 use Prim.Native.Nat.{◌-◌, ◌≤◌}
 use mathlib.Core.Path.{◌≡◌}
 use mathlib.Core.List.{◌++◌}
-use native.Mathlib.Omega.{arith}
-use lib.ListN.{length, take, drop, length-set}
-use Rattle.matrices.proofs.Entries.{copy_more, copy_all}
+use lib.ListN.{length, take, drop}
 use Rattle.rows.proofs.stepping.write_row.Given as goal
 
 abbrev pub invariant-loop-t : goal.invariant-loop-t
