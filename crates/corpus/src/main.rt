@@ -14,7 +14,7 @@ fn print_named(rt: &(impl Files + Print), name: &[u8]) -> io::Result<()> {
         return Err(io::Error::from(ErrorKind::InvalidFilename));
     };
     match fs::open(rt, path) {
-        Ok(mut file) => printer::print_from(rt, &mut file),
+        Ok(mut file) => printer::print_from(&mut file, &mut io::writer(rt)),
         Err(_) => rt.write_all(b"no such file\n"),
     }
 }

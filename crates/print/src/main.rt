@@ -4,5 +4,5 @@
 use std::io;
 
 fn main(rt: HostRuntime) -> io::Result<()> {
-    printer::print_from(&rt, &mut rt.stdin())
+    printer::print_from(&mut rt.stdin(), &mut rt.stdout())
 }

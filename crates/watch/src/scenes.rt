@@ -154,6 +154,22 @@ fn settles(
     step(rt, head, 258, network::SERVER, a, standing, r)
 }
 
+// What the old matrix shows before any step.
+fn circling(rt: &impl Print) -> io::Result<()> {
+    showing::say(
+        rt,
+        b"\nEach depot's route leans on the other's; orders would go round in circles.\n",
+    )?;
+    showing::say(
+        rt,
+        b"The standing matrix is the old one too: the forwarder keeps what it has, no\n",
+    )?;
+    showing::say(
+        rt,
+        b"better and no worse, until a best matrix takes its place.\n",
+    )
+}
+
 // The old matrix, swept.
 pub fn swept(rt: &impl Print) -> io::Result<()> {
     let mut a = network::no_links();
@@ -169,18 +185,7 @@ pub fn swept(rt: &impl Print) -> io::Result<()> {
         &standing,
         &r,
     )?;
-    showing::say(
-        rt,
-        b"\nEach depot's route leans on the other's; orders would go round in circles.\n",
-    )?;
-    showing::say(
-        rt,
-        b"The standing matrix is the old one too: the forwarder keeps what it has, no\n",
-    )?;
-    showing::say(
-        rt,
-        b"better and no worse, until a best matrix takes its place.\n",
-    )?;
+    circling(rt)?;
     sweep(
         rt,
         b"Old matrix, first sweep: row step of ",
