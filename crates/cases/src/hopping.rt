@@ -3,6 +3,7 @@ use super::shared::{done, respond};
 use exchange::requests;
 use hops::HopAnswer;
 use refusals::Told;
+use std::io;
 
 // The row of an answer.
 fn hop_told(answer: HopAnswer) -> Told {
@@ -40,24 +41,24 @@ fn hop_node(answer: HopAnswer) -> u32 {
 }
 
 // Asks for the next hop, and sends the answer.
-fn hop(words: &[u32], a: &[u32], r: &[u32]) {
+fn hop(rt: &impl Print, words: &[u32], a: &[u32], r: &[u32]) -> io::Result<()> {
     let n = requests::number(words, requests::NODES);
     let i = requests::number(words, requests::FROM);
     let j = requests::number(words, requests::TO);
     let answer = hops::next_hop::next_hop(requests::language(words), n, a, r, i, j);
     let values = [found(answer), hop_node(answer)];
-    respond(hop_told(answer), &values, &[]);
+    respond(rt, hop_told(answer), &values, &[])
 }
 
 // Call 6: buffers a and r, from i to j; 1 and the node, or 0 and 0.
-pub fn hop_call(words: &[u32]) -> bool {
+pub fn hop_call(rt: &impl Print, words: &[u32]) -> io::Result<bool> {
     if !requests::adds_up(words, 2) {
-        return false;
+        return Ok(false);
     }
     let p = requests::cut(words, 2);
     let start = p.start;
     let first = p.first;
     let second = p.second;
-    hop(words, &words[start..first], &words[first..second]);
-    true
+    hop(rt, words, &words[start..first], &words[first..second])?;
+    Ok(true)
 }

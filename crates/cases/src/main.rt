@@ -15,42 +15,44 @@ mod shared;
 mod tabled;
 
 use exchange::{frames, requests};
+use std::io;
+use std::io::Read;
 
 // Answers one request; false where it is none.
-fn answer(words: &[u32]) -> bool {
+fn answer(rt: &impl Print, words: &[u32]) -> io::Result<bool> {
     match requests::number(words, requests::CALL) {
-        1 => report::laws_call(words),
-        2 => routing::fresh_call(words),
-        3 => routing::steps_call(words),
-        4 => routing::equation_call(words),
-        5 => tabled::forward_call(words),
-        6 => hopping::hop_call(words),
-        7 => lent::lent_call(words),
-        8 => lent::which_call(words),
-        9 => filed::read_call(words),
-        10 => printed::print_call(words),
-        _ => false,
+        1 => report::laws_call(rt, words),
+        2 => routing::fresh_call(rt, words),
+        3 => routing::steps_call(rt, words),
+        4 => routing::equation_call(rt, words),
+        5 => tabled::forward_call(rt, words),
+        6 => hopping::hop_call(rt, words),
+        7 => lent::lent_call(rt, words),
+        8 => lent::which_call(rt, words),
+        9 => filed::read_call(rt, words),
+        10 => printed::print_call(rt, words),
+        _ => Ok(false),
     }
 }
 
 // Reads one request and answers it; false where there is none.
-fn serve() -> bool {
-    let mut bytes = io::large_buffer();
-    let size = frames::receive(&mut bytes);
+fn serve(rt: &impl Print, input: &mut impl Read) -> io::Result<bool> {
+    let mut bytes = [0u8; 65536];
+    let size = frames::receive(input, &mut bytes)?;
     let mut words = [0u32; 16384];
     let count = frames::to_words(&bytes, size, &mut words);
     if words.len() < count {
-        return false;
+        return Ok(false);
     }
-    answer(&words[..count])
+    answer(rt, &words[..count])
 }
 
-fn main() {
-    let mut count: u64 = 0;
-    while count < 1000000000000 {
-        if !serve() {
-            return;
+fn main(rt: HostRuntime) -> io::Result<()> {
+    let mut input = rt.stdin();
+    for _ in 0..1000000000000u64 {
+        if !serve(&rt, &mut input)? {
+            return Ok(());
         }
-        count += 1;
     }
+    Ok(())
 }

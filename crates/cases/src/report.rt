@@ -3,6 +3,7 @@ use super::shared::done;
 use exchange::{frames, requests};
 use laws::{Law, LawAnswer, Words};
 use refusals::Refusal;
+use std::io;
 
 // 1 where the law is held.
 fn held(law: Law) -> u32 {
@@ -26,34 +27,34 @@ fn put_law(frame: &mut [u8], at: usize, law: Law) -> usize {
 }
 
 // Sends the report of the three laws.
-fn send_report(d: Law, u: Law, c: Law) {
-    let mut frame = io::large_buffer();
+fn send_report(rt: &impl Print, d: Law, u: Law, c: Law) -> io::Result<()> {
+    let mut frame = [0u8; 65536];
     let start = frames::begin(&mut frame, done());
     let flags = [held(d), held(u), held(c)];
     let after_flags = frames::put(&mut frame, start, &flags);
     let after_d = put_law(&mut frame, after_flags, d);
     let after_u = put_law(&mut frame, after_d, u);
     let end = put_law(&mut frame, after_u, c);
-    frames::send(&mut frame, end);
+    frames::send(rt, &mut frame, end)
 }
 
 // Sends a refusal, every other field zero.
-fn send_no_report(r: Refusal) {
-    let mut frame = io::large_buffer();
+fn send_no_report(rt: &impl Print, r: Refusal) -> io::Result<()> {
+    let mut frame = [0u8; 65536];
     let start = frames::begin(&mut frame, refusals::tell(r));
     let zeros = [0u32; 39];
     let end = frames::put(&mut frame, start, &zeros);
-    frames::send(&mut frame, end);
+    frames::send(rt, &mut frame, end)
 }
 
 // Call 1.
-pub fn laws_call(words: &[u32]) -> bool {
+pub fn laws_call(rt: &impl Print, words: &[u32]) -> io::Result<bool> {
     if !requests::adds_up(words, 0) {
-        return false;
+        return Ok(false);
     }
     match laws::laws(requests::language(words)) {
-        LawAnswer::Laws { d, u, c } => send_report(d, u, c),
-        LawAnswer::Refused(r) => send_no_report(r),
+        LawAnswer::Laws { d, u, c } => send_report(rt, d, u, c)?,
+        LawAnswer::Refused(r) => send_no_report(rt, r)?,
     }
-    true
+    Ok(true)
 }

@@ -3,39 +3,39 @@ use super::shared::{ROOM, copy, done, respond, told};
 use exchange::{frames, requests};
 use refusals::Told;
 use routes::{EquationAnswer, StepsAnswer};
+use std::io;
 use weights::Language;
 
 // ---- fresh
 
 // Makes the fresh matrix, and sends it.
-fn fresh(l: Language, n: u32, r: &mut [u32]) {
+fn fresh(rt: &impl Print, l: Language, n: u32, r: &mut [u32]) -> io::Result<()> {
     let answer = routes::fresh::fresh(l, n, r);
-    respond(told(answer), &[], r);
+    respond(rt, told(answer), &[], r)
 }
 
 // Works on a copy of the buffer that was given.
-fn fresh_on(l: Language, n: u32, given: &[u32]) {
+fn fresh_on(rt: &impl Print, l: Language, n: u32, given: &[u32]) -> io::Result<()> {
     let size = given.len();
     if ROOM < size {
-        frames::send_too_long();
-        return;
+        return frames::send_too_long(rt);
     }
     let mut r = [0u32; ROOM];
     copy(given, &mut r);
-    fresh(l, n, &mut r[..size]);
+    fresh(rt, l, n, &mut r[..size])
 }
 
 // Call 2: buffer r; no value.
-pub fn fresh_call(words: &[u32]) -> bool {
+pub fn fresh_call(rt: &impl Print, words: &[u32]) -> io::Result<bool> {
     if !requests::adds_up(words, 1) {
-        return false;
+        return Ok(false);
     }
     let p = requests::cut(words, 1);
     let start = p.start;
     let first = p.first;
     let n = requests::number(words, requests::NODES);
-    fresh_on(requests::language(words), n, &words[start..first]);
-    true
+    fresh_on(rt, requests::language(words), n, &words[start..first])?;
+    Ok(true)
 }
 
 // ---- steps
@@ -57,28 +57,41 @@ fn steps_done(answer: StepsAnswer) -> u32 {
 }
 
 // Runs the list, and sends the answer and the matrix.
-fn steps(l: Language, n: u32, a: &[u32], r: &mut [u32], list: &[u32]) {
+fn steps(
+    rt: &impl Print,
+    l: Language,
+    n: u32,
+    a: &[u32],
+    r: &mut [u32],
+    list: &[u32],
+) -> io::Result<()> {
     let answer = steps::steps(l, n, a, r, list);
     let values = [steps_done(answer)];
-    respond(steps_told(answer), &values, r);
+    respond(rt, steps_told(answer), &values, r)
 }
 
 // Works on a copy of the matrix that was given.
-fn steps_on(l: Language, n: u32, a: &[u32], given: &[u32], list: &[u32]) {
+fn steps_on(
+    rt: &impl Print,
+    l: Language,
+    n: u32,
+    a: &[u32],
+    given: &[u32],
+    list: &[u32],
+) -> io::Result<()> {
     let size = given.len();
     if ROOM < size {
-        frames::send_too_long();
-        return;
+        return frames::send_too_long(rt);
     }
     let mut r = [0u32; ROOM];
     copy(given, &mut r);
-    steps(l, n, a, &mut r[..size], list);
+    steps(rt, l, n, a, &mut r[..size], list)
 }
 
 // Call 3: buffers a, r and the list; the steps done, and r.
-pub fn steps_call(words: &[u32]) -> bool {
+pub fn steps_call(rt: &impl Print, words: &[u32]) -> io::Result<bool> {
     if !requests::adds_up(words, 3) {
-        return false;
+        return Ok(false);
     }
     let p = requests::cut(words, 3);
     let start = p.start;
@@ -87,13 +100,14 @@ pub fn steps_call(words: &[u32]) -> bool {
     let third = p.third;
     let n = requests::number(words, requests::NODES);
     steps_on(
+        rt,
         requests::language(words),
         n,
         &words[start..first],
         &words[first..second],
         &words[second..third],
-    );
-    true
+    )?;
+    Ok(true)
 }
 
 // ---- equation
@@ -117,16 +131,16 @@ fn satisfied(answer: EquationAnswer) -> u32 {
 }
 
 // Asks for the equation, and sends the answer.
-fn equation(l: Language, n: u32, a: &[u32], r: &[u32]) {
+fn equation(rt: &impl Print, l: Language, n: u32, a: &[u32], r: &[u32]) -> io::Result<()> {
     let answer = routes::equation::equation(l, n, a, r);
     let values = [satisfied(answer)];
-    respond(equation_told(answer), &values, &[]);
+    respond(rt, equation_told(answer), &values, &[])
 }
 
 // Call 4: buffers a and r; 1 where r satisfies the equation, else 0.
-pub fn equation_call(words: &[u32]) -> bool {
+pub fn equation_call(rt: &impl Print, words: &[u32]) -> io::Result<bool> {
     if !requests::adds_up(words, 2) {
-        return false;
+        return Ok(false);
     }
     let p = requests::cut(words, 2);
     let start = p.start;
@@ -134,10 +148,11 @@ pub fn equation_call(words: &[u32]) -> bool {
     let second = p.second;
     let n = requests::number(words, requests::NODES);
     equation(
+        rt,
         requests::language(words),
         n,
         &words[start..first],
         &words[first..second],
-    );
-    true
+    )?;
+    Ok(true)
 }

@@ -1,6 +1,7 @@
 // What the calls share: the told row of an answer, and buffers copied from a request.
 use exchange::frames;
 use refusals::{Answer, Told};
+use std::io;
 
 // The room for a matrix that a call writes.
 pub const ROOM: usize = 1280;
@@ -27,21 +28,19 @@ pub fn told(answer: Answer) -> Told {
 
 // Copies as much as there is room for.
 pub fn copy(from: &[u32], to: &mut [u32]) {
-    let mut i: usize = 0;
-    while i < from.len() {
+    for (i, word) in from.iter().enumerate() {
         if to.len() <= i {
             return;
         }
-        to[i] = from[i];
-        i += 1;
+        to[i] = *word;
     }
 }
 
 // Sends a response of an answer's row, its values, and one buffer.
-pub fn respond(row: Told, values: &[u32], buffer: &[u32]) {
-    let mut frame = io::large_buffer();
+pub fn respond(rt: &impl Print, row: Told, values: &[u32], buffer: &[u32]) -> io::Result<()> {
+    let mut frame = [0u8; 65536];
     let start = frames::begin(&mut frame, row);
     let after_values = frames::put(&mut frame, start, values);
     let end = frames::put(&mut frame, after_values, buffer);
-    frames::send(&mut frame, end);
+    frames::send(rt, &mut frame, end)
 }

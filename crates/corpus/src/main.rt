@@ -1,25 +1,33 @@
 // Prints, for each file that is named as an argument, its name on a line and then what `print` prints for it.
 #![tactic(auto)]
 
-fn print_named(i: usize) {
-    let mut path = io::buffer();
-    let size = os::arg(i, &mut path);
-    io::write_all(1, &path[..size]);
-    io::write_all(1, b"\n");
-    let fd = os::open_read(&path[..size]);
-    if fd < 0 {
-        io::write_all(1, b"no such file\n");
-        return;
+use std::env::FillError;
+use std::io::ErrorKind;
+use std::rt::{Env, Files};
+use std::{fs, io, str};
+
+fn print_named(rt: &(impl Files + Print), name: &[u8]) -> io::Result<()> {
+    rt.write_all(name)?;
+    rt.write_all(b"\n")?;
+    // A path is text, so a name that is none cannot be opened.
+    let Ok(path) = str::from_utf8(name) else {
+        return Err(io::Error::from(ErrorKind::InvalidFilename));
+    };
+    match fs::open(rt, path) {
+        Ok(mut file) => printer::print_from(rt, &mut file),
+        Err(_) => rt.write_all(b"no such file\n"),
     }
-    printer::print_from(fd);
-    libc::close(fd);
 }
 
-fn main() {
-    let count = os::arg_count();
-    let mut i: usize = 1;
-    while i < count {
-        print_named(i);
-        i += 1;
+fn main(rt: HostRuntime) -> io::Result<()> {
+    for i in 1..usize::MAX {
+        let mut name = [0u8; 4096];
+        match rt.arg(i, &mut name) {
+            Ok(size) => print_named(&rt, &name[..size])?,
+            // Longer than any path is: printed as no name, and no file has that.
+            Err(FillError::TooLong) => print_named(&rt, b"")?,
+            Err(FillError::NotPresent) => return Ok(()),
+        }
     }
+    Ok(())
 }

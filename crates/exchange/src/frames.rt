@@ -1,5 +1,10 @@
-// Frames on standard input and output, and words as bytes.
+// Frames that are read and written, and words as bytes.
+ghost use Rattle.std.specs.Prelude.{◌≤◌, length, IfOk};
+
+use inputs::read_full;
 use refusals::Told;
+use std::io;
+use std::io::Read;
 
 fn wide(byte: u8) -> u32 {
     byte as u32
@@ -27,33 +32,33 @@ fn word_at(bytes: &[u8], at: usize) -> u32 {
 }
 
 // Reads a request without its first word, and says how many bytes it has; 0 where there is none.
-pub fn receive(bytes: &mut [u8]) -> usize {
+pub fn receive(input: &mut impl Read, bytes: &mut [u8]) -> io::Result<usize>
+    ensures { IfOk result (λ size. size ≤ length bytes.new) }
+{
     let mut first = [0u8; 4];
-    let got = io::read_full(0, &mut first);
+    let got = read_full(input, &mut first)?;
     if got < 4 {
-        return 0;
+        return Ok(0);
     }
     let size = (word_at(&first, 0) as usize) * 4;
     if bytes.len() < size {
-        return 0;
+        return Ok(0);
     }
-    let read = io::read_full(0, &mut bytes[..size]);
+    let read = read_full(input, &mut bytes[..size])?;
     if read < size {
-        return 0;
+        return Ok(0);
     }
-    size
+    Ok(size)
 }
 
 // The words of the first `size` bytes, and how many there are.
 pub fn to_words(bytes: &[u8], size: usize, words: &mut [u32]) -> usize {
     let count = size / 4;
-    let mut i: usize = 0;
-    while i < count {
+    for i in 0..count {
         if words.len() <= i {
             return i;
         }
         words[i] = word_at(bytes, i * 4);
-        i += 1;
     }
     count
 }
@@ -65,21 +70,18 @@ pub fn low_byte(word: u32) -> u8 {
 // Puts words into a frame from a place on, as far as there is room, and gives the place after them.
 pub fn put(frame: &mut [u8], start: usize, words: &[u32]) -> usize {
     let mut at = start;
-    let mut i: usize = 0;
-    while i < words.len() {
+    for word in words {
         if frame.len() < at {
             return at;
         }
         if frame.len() - at < 4 {
             return at;
         }
-        let word = words[i];
-        frame[at] = low_byte(word);
-        frame[at + 1] = low_byte(word >> 8);
-        frame[at + 2] = low_byte(word >> 16);
-        frame[at + 3] = low_byte(word >> 24);
+        frame[at] = low_byte(*word);
+        frame[at + 1] = low_byte(*word >> 8);
+        frame[at + 2] = low_byte(*word >> 16);
+        frame[at + 3] = low_byte(*word >> 24);
         at += 4;
-        i += 1;
     }
     at
 }
@@ -91,25 +93,25 @@ pub fn begin(frame: &mut [u8], t: Told) -> usize {
 }
 
 // Sends a response that ends at a place.
-pub fn send(frame: &mut [u8], end: usize) {
+pub fn send(rt: &impl Print, frame: &mut [u8], end: usize) -> io::Result<()> {
     if frame.len() < end {
-        return;
+        return Ok(());
     }
     if end < 4 {
-        return;
+        return Ok(());
     }
     if 65536 < end {
-        return;
+        return Ok(());
     }
     let first = [(end / 4 - 1) as u32];
     put(frame, 0, &first);
-    io::write_all(1, &frame[..end]);
+    rt.write_all(&frame[..end])
 }
 
 // A response for a buffer that is too long for this program.
-pub fn send_too_long() {
+pub fn send_too_long(rt: &impl Print) -> io::Result<()> {
     let words = [1u32, 4294967295];
     let mut frame = [0u8; 8];
     put(&mut frame, 0, &words);
-    io::write_all(1, &frame);
+    rt.write_all(&frame)
 }

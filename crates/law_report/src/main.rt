@@ -4,6 +4,7 @@
 
 use laws::{Law, LawAnswer, Words};
 use refusals::Refusal;
+use std::io;
 use weights::{Component, Language};
 
 // A line, as far as it is read: whether a number is being read, that number, and those before it.
@@ -54,52 +55,37 @@ fn language(numbers: [u32; 9]) -> Language {
     }
 }
 
-fn print_words(name: &[u8], w: Words) {
-    io::write_all(1, name);
-    io::print_decimal(1, w.first as u64);
-    io::write_all(1, b" ");
-    io::print_decimal(1, w.second as u64);
-    io::write_all(1, b" ");
-    io::print_decimal(1, w.third as u64);
-    io::write_all(1, b" ");
-    io::print_decimal(1, w.fourth as u64);
+fn print_words(rt: &impl Print, name: &[u8], w: Words) -> io::Result<()> {
+    rt.write_all(name)?;
+    print!(rt; "{} {} {} {}", w.first, w.second, w.third, w.fourth)
 }
 
-fn print_law(name: &[u8], law: Law) {
-    io::write_all(1, name);
+fn print_law(rt: &impl Print, name: &[u8], law: Law) -> io::Result<()> {
+    rt.write_all(name)?;
     if law.held {
-        io::write_all(1, b" held:");
+        rt.write_all(b" held:")?;
     } else {
-        io::write_all(1, b" broken:");
+        rt.write_all(b" broken:")?;
     }
-    let s = law.s;
-    let x = law.x;
-    let y = law.y;
-    print_words(b" s ", s);
-    print_words(b" x ", x);
-    print_words(b" y ", y);
-    io::write_all(1, b"\n");
+    print_words(rt, b" s ", law.s)?;
+    print_words(rt, b" x ", law.x)?;
+    print_words(rt, b" y ", law.y)?;
+    rt.write_all(b"\n")
 }
 
-fn print_refusal(r: Refusal) {
+fn print_refusal(rt: &impl Print, r: Refusal) -> io::Result<()> {
     let t = refusals::tell(r);
-    io::write_all(1, b"REFUSED ");
-    io::print_decimal(1, t.number as u64);
-    io::write_all(1, b" ");
-    io::print_decimal(1, t.which as u64);
-    io::write_all(1, b" ");
-    io::print_decimal(1, t.place as u64);
-    io::write_all(1, b"\n");
+    println!(rt; "REFUSED {} {} {}", t.number, t.which, t.place)
 }
 
-fn print_report(l: Language) {
+fn print_report(rt: &impl Print, l: Language) -> io::Result<()> {
     match laws::laws(l) {
         LawAnswer::Laws { d, u, c } => {
-            print_law(b"D", d);
-            print_law(b"U", u);
-            print_law(b"C", c);
+            print_law(rt, b"D", d)?;
+            print_law(rt, b"U", u)?;
+            print_law(rt, b"C", c)
         }
-        LawAnswer::Refused(r) => print_refusal(r),
+        LawAnswer::Refused(r) => print_refusal(rt, r),
     }
 }
 
@@ -123,15 +109,13 @@ fn number_ends(line: Line) -> Line {
 }
 
 // A line without a number is passed over.
-fn line_ends(line: Line) -> Line {
+fn line_ends(rt: &impl Print, line: Line) -> io::Result<Line> {
     let whole = number_ends(line);
     if whole.read == 0 {
-        return empty();
+        return Ok(empty());
     }
-    let numbers = whole.numbers;
-    let l = language(numbers);
-    print_report(l);
-    empty()
+    print_report(rt, language(whole.numbers))?;
+    Ok(empty())
 }
 
 // A digit goes on the number; far above every limit it no longer matters.
@@ -156,36 +140,34 @@ fn digit(line: Line, byte: u8) -> Line {
     }
 }
 
-fn take_byte(line: Line, byte: u8) -> Line {
+fn take_byte(rt: &impl Print, line: Line, byte: u8) -> io::Result<Line> {
     match byte {
-        10 => line_ends(line),
-        48..=57 => digit(line, byte),
-        _ => number_ends(line),
+        10 => line_ends(rt, line),
+        48..=57 => Ok(digit(line, byte)),
+        _ => Ok(number_ends(line)),
     }
 }
 
 // The bytes that were read, one by one.
-fn take_bytes(bytes: &[u8], before: Line) -> Line {
+fn take_bytes(rt: &impl Print, bytes: &[u8], before: Line) -> io::Result<Line> {
     let mut line = before;
-    let mut i = 0;
-    while i < bytes.len() {
-        line = take_byte(line, bytes[i]);
-        i += 1;
+    for byte in bytes {
+        line = take_byte(rt, line, *byte)?;
     }
-    line
+    Ok(line)
 }
 
-fn main() {
+fn main(rt: HostRuntime) -> io::Result<()> {
+    let mut input = rt.stdin();
     let mut line = empty();
-    let mut rounds: usize = 0;
-    while rounds < 1000 {
-        let mut bytes = io::buffer();
-        let got = io::read_full(0, &mut bytes);
-        line = take_bytes(&bytes[..got], line);
+    for _ in 0..1000 {
+        let mut bytes = [0u8; 4096];
+        let got = inputs::read_full(&mut input, &mut bytes)?;
+        line = take_bytes(&rt, &bytes[..got], line)?;
         if got < 4096 {
-            line_ends(line);
-            return;
+            line_ends(&rt, line)?;
+            return Ok(());
         }
-        rounds += 1;
     }
+    Ok(())
 }

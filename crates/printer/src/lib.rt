@@ -1,12 +1,17 @@
-// Prints what is read from a descriptor. The text is proved (`print_input`); that the descriptor is read and written no contract can say.
+// Prints what is read from an input. The text is proved (`print_input`); that a file is read and standard output written no contract
+// can say.
 #![tactic(auto)]
 
-pub fn print_from(fd: i32) {
-    let mut file = io::large_buffer();
-    let size = io::read_full(fd, &mut file);
+use inputs::read_full;
+use std::io;
+use std::io::Read;
+
+pub fn print_from(rt: &impl Print, input: &mut impl Read) -> io::Result<()> {
+    let mut file = [0u8; 65536];
+    let size = read_full(input, &mut file)?;
     let mut next = [0u8; 1];
-    let more = 0 < io::read_full(fd, &mut next);
-    let mut text = io::large_buffer();
+    let more = 0 < read_full(input, &mut next)?;
+    let mut text = [0u8; 65536];
     let end = printing::text::print_input(&file[..size], more, &mut text);
-    io::write_all(1, &text[..end]);
+    rt.write_all(&text[..end])
 }

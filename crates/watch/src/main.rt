@@ -7,12 +7,14 @@ mod scenes;
 mod showing;
 mod telling;
 
-fn main() {
-    scenes::words();
-    scenes::before();
-    scenes::lost();
-    scenes::swept();
-    scenes::from_fresh();
-    scenes::settled();
-    scenes::closing();
+use std::io;
+
+fn main(rt: HostRuntime) -> io::Result<()> {
+    scenes::words(&rt)?;
+    scenes::before(&rt)?;
+    scenes::lost(&rt)?;
+    scenes::swept(&rt)?;
+    scenes::from_fresh(&rt)?;
+    scenes::settled(&rt)?;
+    scenes::closing(&rt)
 }

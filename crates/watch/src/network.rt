@@ -92,9 +92,7 @@ pub fn carried(s: &[u32], i: u32, j: u32) -> u32 {
 }
 
 pub fn copy(from: &[u32], to: &mut [u32]) {
-    let mut at: usize = 0;
-    while at < from.len() {
-        put(to, at, from[at]);
-        at += 1;
+    for (at, word) in from.iter().enumerate() {
+        put(to, at, *word);
     }
 }

@@ -5,6 +5,7 @@ use super::{network, showing};
 use handover::LenderAnswer;
 use hops::HopAnswer;
 use routes::EquationAnswer;
+use std::io;
 
 // ---- rows that changed
 
@@ -23,13 +24,13 @@ fn row_changed(old: &[u32], new: &[u32], i: u32) -> bool {
 }
 
 // Names a row that changed; true where it did.
-fn tell_row(old: &[u32], new: &[u32], i: u32) -> bool {
+fn tell_row(rt: &impl Print, old: &[u32], new: &[u32], i: u32) -> io::Result<bool> {
     if row_changed(old, new, i) {
-        showing::say(b" ");
-        showing::name(i);
-        return true;
+        showing::say(rt, b" ")?;
+        showing::name(rt, i)?;
+        return Ok(true);
     }
-    false
+    Ok(false)
 }
 
 fn none_of(first: bool, second: bool, third: bool) -> bool {
@@ -42,25 +43,25 @@ fn none_of(first: bool, second: bool, third: bool) -> bool {
     !third
 }
 
-pub fn changed_rows(old: &[u32], new: &[u32]) {
-    showing::say(b"\n  rows changed:         ");
-    let north = tell_row(old, new, network::NORTH);
-    let south = tell_row(old, new, network::SOUTH);
-    let server = tell_row(old, new, network::SERVER);
+pub fn changed_rows(rt: &impl Print, old: &[u32], new: &[u32]) -> io::Result<()> {
+    showing::say(rt, b"\n  rows changed:         ")?;
+    let north = tell_row(rt, old, new, network::NORTH)?;
+    let south = tell_row(rt, old, new, network::SOUTH)?;
+    let server = tell_row(rt, old, new, network::SERVER)?;
     if none_of(north, south, server) {
-        showing::say(b" none");
+        showing::say(rt, b" none")?;
     }
-    showing::say(b"\n");
+    showing::say(rt, b"\n")
 }
 
 // ---- the equation
 
-pub fn equation(a: &[u32], r: &[u32]) {
-    showing::say(b"  the equation:          ");
+pub fn equation(rt: &impl Print, a: &[u32], r: &[u32]) -> io::Result<()> {
+    showing::say(rt, b"  the equation:          ")?;
     match routes::equation::equation(network::language(), network::NODES, a, r) {
-        EquationAnswer::Yes => showing::say(b"balances\n"),
-        EquationAnswer::No => showing::say(b"does not balance\n"),
-        EquationAnswer::Refused(_) => showing::say(b"refused\n"),
+        EquationAnswer::Yes => showing::say(rt, b"balances\n"),
+        EquationAnswer::No => showing::say(rt, b"does not balance\n"),
+        EquationAnswer::Refused(_) => showing::say(rt, b"refused\n"),
     }
 }
 
@@ -80,32 +81,39 @@ fn is_tight(a: &[u32], r: &[u32], i: u32, k: u32, other: u32) -> bool {
 }
 
 // Names the arc from i to k where it is tight.
-fn tell_tight(a: &[u32], r: &[u32], i: u32, k: u32, other: u32) -> bool {
+fn tell_tight(
+    rt: &impl Print,
+    a: &[u32],
+    r: &[u32],
+    i: u32,
+    k: u32,
+    other: u32,
+) -> io::Result<bool> {
     if is_tight(a, r, i, k, other) {
-        showing::say(b"\n                         ");
-        showing::name(i);
-        showing::say(b" -> ");
-        showing::name(k);
-        return true;
+        showing::say(rt, b"\n                         ")?;
+        showing::name(rt, i)?;
+        showing::say(rt, b" -> ")?;
+        showing::name(rt, k)?;
+        return Ok(true);
     }
-    false
+    Ok(false)
 }
 
 // The tight arcs of one depot on the way to the server.
-fn tell_depot(a: &[u32], r: &[u32], depot: u32, other: u32) -> bool {
-    let to_other = tell_tight(a, r, depot, other, network::SERVER);
-    let to_server = tell_tight(a, r, depot, network::SERVER, other);
-    !none_of(to_other, to_server, false)
+fn tell_depot(rt: &impl Print, a: &[u32], r: &[u32], depot: u32, other: u32) -> io::Result<bool> {
+    let to_other = tell_tight(rt, a, r, depot, other, network::SERVER)?;
+    let to_server = tell_tight(rt, a, r, depot, network::SERVER, other)?;
+    Ok(!none_of(to_other, to_server, false))
 }
 
-pub fn tight_arcs(a: &[u32], r: &[u32]) {
-    showing::say(b"  tight to the server:");
-    let north = tell_depot(a, r, network::NORTH, network::SOUTH);
-    let south = tell_depot(a, r, network::SOUTH, network::NORTH);
+pub fn tight_arcs(rt: &impl Print, a: &[u32], r: &[u32]) -> io::Result<()> {
+    showing::say(rt, b"  tight to the server:")?;
+    let north = tell_depot(rt, a, r, network::NORTH, network::SOUTH)?;
+    let south = tell_depot(rt, a, r, network::SOUTH, network::NORTH)?;
     if none_of(north, south, false) {
-        showing::say(b"   none");
+        showing::say(rt, b"   none")?;
     }
-    showing::say(b"\n");
+    showing::say(rt, b"\n")
 }
 
 // ---- the matrix that is lent
@@ -118,37 +126,36 @@ pub fn best(a: &[u32], r: &mut [u32]) {
 }
 
 // Tells one entry where it is not the best; true where it is not.
-fn tell_entry(held: &[u32], best: &[u32], i: u32, j: u32) -> bool {
+fn tell_entry(rt: &impl Print, held: &[u32], best: &[u32], i: u32, j: u32) -> io::Result<bool> {
     if entry_changed(held, best, i, j) {
-        showing::say(b"                         from ");
-        showing::name(i);
-        showing::say(b" to ");
-        showing::name(j);
-        showing::say(b" it holds ");
-        showing::carrying(network::carried(held, i, j));
-        showing::say(b", and the best is ");
-        showing::carrying(network::carried(best, i, j));
-        showing::say(b"\n");
-        return true;
+        showing::say(rt, b"                         from ")?;
+        showing::name(rt, i)?;
+        showing::say(rt, b" to ")?;
+        showing::name(rt, j)?;
+        showing::say(rt, b" it holds ")?;
+        showing::carrying(rt, network::carried(held, i, j))?;
+        showing::say(rt, b", and the best is ")?;
+        showing::carrying(rt, network::carried(best, i, j))?;
+        showing::say(rt, b"\n")?;
+        return Ok(true);
     }
-    false
+    Ok(false)
 }
 
 // Tells the first entry, by rows, that is not the best.
-fn tell_first(a: &[u32], newer: &[u32]) {
+fn tell_first(rt: &impl Print, a: &[u32], newer: &[u32]) -> io::Result<()> {
     let mut best_matrix = network::no_links();
     best(a, &mut best_matrix);
-    let mut i: u32 = 0;
-    while i < 9 {
-        if tell_entry(newer, &best_matrix, i / 3, i % 3) {
-            return;
+    for i in 0..9 {
+        if tell_entry(rt, newer, &best_matrix, i / 3, i % 3)? {
+            return Ok(());
         }
-        i += 1;
     }
+    Ok(())
 }
 
-pub fn lent(a: &[u32], standing: &[u32], newer: &[u32]) {
-    showing::say(b"  the forwarder is lent: ");
+pub fn lent(rt: &impl Print, a: &[u32], standing: &[u32], newer: &[u32]) -> io::Result<()> {
+    showing::say(rt, b"  the forwarder is lent: ")?;
     match handover::lending::lender(
         network::language(),
         network::NODES,
@@ -158,12 +165,16 @@ pub fn lent(a: &[u32], standing: &[u32], newer: &[u32]) {
         network::NORTH,
     ) {
         LenderAnswer::Newer => showing::say(
+            rt,
             b"the new matrix, since every entry of it is the best\n",
         ),
         LenderAnswer::Standing => {
-            showing::say(b"the standing matrix, since the new one is not the best:\n");
-            tell_first(a, newer);
+            showing::say(
+                rt,
+                b"the standing matrix, since the new one is not the best:\n",
+            )?;
+            tell_first(rt, a, newer)
         }
-        LenderAnswer::Refused(_) => showing::say(b"nothing: the call was refused\n"),
+        LenderAnswer::Refused(_) => showing::say(rt, b"nothing: the call was refused\n"),
     }
 }
