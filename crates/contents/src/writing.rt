@@ -12,8 +12,8 @@ ghost use Rattle.file_bytes.specs.Offsets.{ByteOffset, RecordOffset};
 ghost use Rattle.records.specs.Parts.{InRange, Listed};
 ghost use Rattle.contents.specs.Parts.{place_of};
 
-use file_bytes::two;
 use fields::Head;
+use file_bytes::two;
 use records::checks::{ends_at, record_length};
 use records::lists::list_end;
 use records::{Ends, Listing};

@@ -3,9 +3,9 @@ ghost use Rattle.std.specs.Prelude.{◌≡◌};
 ghost use Rattle.files.specs.File.{file_read};
 ghost use Rattle.fields.specs.Parts.{SmallHeadRead};
 
-use file_bytes::four;
 use fields::HeadRead;
 use fields::header::header;
+use file_bytes::four;
 use records::lists::body_check;
 use refusals::{Check, Refusal};
 

@@ -9,7 +9,7 @@ use lib.ListN.{length}
 use borrow.Author.Tests.{le-leb}
 use Rattle.algebra.specs.Network.{Network}
 use Rattle.algebra.specs.Best.{best}
-use Rattle.algebra.specs.Step.{Step, row, settle, fresh, routed, step, run, reached}
+use Rattle.algebra.specs.Step.{Step, row, settle, fresh, routed, step, reached}
 use Rattle.algebra.proofs.Bests.{held_valid}
 use Rattle.algebra.proofs.Bound.{entry_fits_lem, stored_fits}
 use Rattle.algebra.proofs.Reach.{entry_held, run_append}
@@ -20,14 +20,14 @@ use Rattle.weights.specs.Sizes.{places, ones, arc_sum, matrix_sum}
 use Rattle.weights.specs.Weights.{Weight, none, route, Valid, ValidValues, Sound, language}
 use Rattle.weights.specs.Laws.{test_d, test_u}
 use Rattle.weights.specs.Languages.{SmallLimits}
-use Rattle.weights.specs.Words.{words, reading, is_good, decoded}
+use Rattle.weights.specs.Words.{reading, is_good, decoded}
 use Rattle.weights.proofs.Languages.{lawful}
 use Rattle.weights.specs.Written.{SumsUpTo, Written}
 use Rattle.weights.proofs.Readings.{reads_back, reads_words, well_read}
 use Rattle.weights.specs.Sums.{sum_of, sum_at}
 use Rattle.weights.proofs.Sums.{sum_size, well_sum}
 use Rattle.matrices.specs.Buffers.{matrix_words, cell, words_at, entry_place, matrix_in, Formed}
-use Rattle.matrices.specs.Steps.{Matrix, sums_fit, weight_fits, every, row_fits}
+use Rattle.matrices.specs.Steps.{Matrix, sums_fit, weight_fits, row_fits}
 use Rattle.matrices.proofs.Entries.{matrix_four, length_matrix}
 use Rattle.matrices.proofs.Every.{every_cong, every_all}
 use Rattle.routes.specs.Calls.{step_of, step_fits, run_of, done_of}

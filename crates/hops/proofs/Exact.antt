@@ -14,7 +14,6 @@ use Rattle.hops.proofs.Rule.{hop_exactly}
 use Rattle.refusals.specs.Cases.{ToldExactly, refusal_numbers}
 use Rattle.routes.proofs.Cases.{matrices_exact}
 use Rattle.guards.proofs.Cases.{node_exact}
-use Rattle.guards.specs.Checks.{node_case}
 use Rattle.refusals.proofs.Cases.{told_exactly, no_more, ◌and◌}
 use Rattle.guards.specs.OnNetwork.{OnNetwork, components, matrix_on, arcs_on}
 

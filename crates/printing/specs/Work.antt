@@ -3,7 +3,6 @@
 -- To be believed: all of it.
 use Rattle.std.specs.Prelude.{ℕ, ◌-◌, ◌*◌, List, [], ◌∷◌, replicate}
 use Rattle.refusals.specs.declared.Told.{Told}
-use Rattle.refusals.specs.Told.{told}
 use Rattle.refusals.specs.Checks.{check_told, if_passed}
 use Rattle.weights.specs.Sizes.{weight_words, entry_words}
 use Rattle.matrices.specs.Buffers.{blocks}

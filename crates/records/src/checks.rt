@@ -7,8 +7,8 @@ ghost use Rattle.file_bytes.specs.Offsets.{ByteOffset, RecordOffset};
 ghost use Rattle.records.specs.Parts.{component_at};
 
 use super::{Ends, Listing};
-use file_bytes::{byte, two};
 use fields::Head;
+use file_bytes::{byte, two};
 use numbers::{Destination, Node};
 use refusals::checks::or_else;
 use refusals::{Check, Refusal};

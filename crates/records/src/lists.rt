@@ -5,8 +5,8 @@ ghost use Rattle.records.specs.Records.{records_check, record_list_check, list_e
 
 use super::Listing;
 use super::checks::{record_check, record_length};
-use file_bytes::two;
 use fields::Head;
+use file_bytes::two;
 use refusals::checks::or_else;
 use refusals::{Check, Refusal};
 

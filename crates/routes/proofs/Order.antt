@@ -14,7 +14,7 @@ use Rattle.weights.specs.declared.Language.{Language}
 use Rattle.weights.specs.declared.Places.{Places}
 use Rattle.weights.specs.Sizes.{places, arc_sum, matrix_sum}
 use Rattle.weights.specs.Weights.{Sound}
-use Rattle.weights.specs.Languages.{components_of, padded, places_of}
+use Rattle.weights.specs.Languages.{components_of, places_of}
 use Rattle.weights.proofs.Padding.{sound_unpad}
 use Rattle.weights.proofs.Checking.{few}
 use Rattle.matrices.specs.Buffers.{Square}
@@ -26,7 +26,7 @@ use Rattle.guards.proofs.Singles as singles
 use Rattle.guards.specs.Entrance.{length_measured, entrance_check, Placed, Entered}
 use Rattle.guards.proofs.Singles.{nodes_passed, length_passed}
 use Rattle.guards.proofs.Entering.{entrance_refuses, entrance_leaves, sizes_passed, lengths_passed}
-use Rattle.routes.specs.Calls.{fresh_cases, fresh_check, matrices_cases, equation_check}
+use Rattle.routes.specs.Calls.{fresh_check, matrices_cases, equation_check}
 use Rattle.routes.proofs.Bridge.{check_pad}
 
 -- ---- a language in its places

@@ -4,7 +4,6 @@
 use Rattle.std.specs.Prelude.{ℕ, cond, List, [], ◌∷◌, ◌++◌, eqb, drop}
 use Rattle.std.proofs.Math.Option.{Option, some, none as nothing}
 use Rattle.refusals.specs.declared.Check.{Check}
-use Rattle.refusals.specs.Told.{done}
 use Rattle.refusals.specs.Checks.{check_told, if_passed}
 use Rattle.refusals.specs.declared.Told.{Told}
 use Rattle.refusals.specs.Cases.{Case, check_of}

@@ -1,11 +1,5 @@
-use Prim.Native.Nat.{◌-◌, ◌≤◌}
-use mathlib.Core.Path.{◌≡◌, sym, ◌∙◌}
-use mathlib.Core.List.{[], ◌∷◌}
+use mathlib.Core.Path.{sym, ◌∙◌}
 use native.Mathlib.Omega.{arith}
-use lib.ListN.{length, drop}
-use borrow.Author.Tests.{not-true, not-false}
-use Rattle.refusals.specs.Checks.{first_of}
-use Rattle.guards.specs.Checks.{many_case, list_case, steps_from}
 use Rattle.routes.proofs.Lists.{too_many, list_start, list_bad, list_more, list_end_lem}
 use Rattle.steps.proofs.check_list.Goals as goal
 
@@ -16,10 +10,10 @@ pub loop-k-init : goal.loop-k-init
 loop-k-init c = (omega arith, list_start c.args.n c.args.list.now c.if-list-gt-MOST_STEPS.false)
 
 pub returns-then-not-is_step : goal.returns-then-not-is_step
-returns-then-not-is_step c = let args = c.args in     sym (c.loop-k.invariant.1 ∙ list_bad args.n args.list.now c.loop-k.k c.loop-k-test.true (sym c.is_step.ensures ∙ c.if-not-is_step.true))
+returns-then-not-is_step c = let args = c.args in sym (c.loop-k.invariant.1 ∙ list_bad args.n args.list.now c.loop-k.k c.loop-k-test.true (sym c.is_step.ensures ∙ c.if-not-is_step.true))
 
 pub loop-k-preserved : goal.loop-k-preserved
-loop-k-preserved c = let args = c.args in     (omega arith, c.loop-k.invariant.1 ∙ list_more args.n args.list.now c.loop-k.k c.loop-k-test.true (sym c.is_step.ensures ∙ c.if-not-is_step.false))
+loop-k-preserved c = let args = c.args in (omega arith, c.loop-k.invariant.1 ∙ list_more args.n args.list.now c.loop-k.k c.loop-k-test.true (sym c.is_step.ensures ∙ c.if-not-is_step.false))
 
 pub returns : goal.returns
-returns c = let args = c.args in     sym (c.loop-k.invariant.1 ∙ list_end_lem args.n args.list.now c.loop-k.k (omega arith))
+returns c = let args = c.args in sym (c.loop-k.invariant.1 ∙ list_end_lem args.n args.list.now c.loop-k.k (omega arith))

@@ -1,12 +1,9 @@
 use Prim.Native.Nat.{◌-◌, ◌≤◌}
-use mathlib.Core.Path.{◌≡◌, sym, ◌∙◌}
+use mathlib.Core.Path.{◌≡◌}
 use mathlib.Core.List.{[], ◌∷◌}
-use native.Mathlib.Omega.{arith}
 use lib.ListN.{length, drop}
-use borrow.Author.Tests.{not-true, not-false}
 use Rattle.refusals.specs.Checks.{first_of}
 use Rattle.guards.specs.Checks.{many_case, list_case, steps_from}
-use Rattle.routes.proofs.Lists.{too_many, list_start, list_bad, list_more, list_end_lem}
 use Rattle.steps.proofs.check_list.Given as goal
 
 abbrev pub invariant-loop-k : goal.invariant-loop-k

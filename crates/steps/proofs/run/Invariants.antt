@@ -1,9 +1,6 @@
 use Prim.Native.Nat.{◌-◌, ◌≤◌}
-use mathlib.Core.List.{[]}
-use native.Mathlib.Omega.{arith}
 use lib.ListN.{length}
-use borrow.Author.Tests.{not-true, not-false}
-use Rattle.routes.proofs.Lists.{Running, running_none, running_more, running_stop, running_all, steps_here}
+use Rattle.routes.proofs.Lists.{Running}
 use Rattle.steps.proofs.run.Given as goal
 
 abbrev pub invariant-loop-done : goal.invariant-loop-done

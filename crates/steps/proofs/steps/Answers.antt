@@ -5,7 +5,7 @@ use Rattle.routes.proofs.Answers.{steps_refused, list_refused, steps_stopped, st
 use Rattle.steps.proofs.steps.Goals as goal
 
 pub run-done-requires : goal.run-done-requires
-run-done-requires c = let s = c.args in     let said = rw c.in-Given.is at c.ready.ensures in
+run-done-requires c = let s = c.args in let said = rw c.in-Given.is at c.ready.ensures in
     let listed = list_passed s.n s.list.now (sym c.check_list.ensures ∙ c.in-Passed.is) in
     (said.2, listed.1, listed.0)
 

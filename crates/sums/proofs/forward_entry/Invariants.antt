@@ -1,17 +1,11 @@
-use Prim.Native.Nat.{◌+◌, ◌*◌, ◌-◌, ◌≤◌}
-use mathlib.Core.Path.{◌≡◌, refl, sym, ◌∙◌, subst}
-use native.Mathlib.Omega.{arith}
-use lib.ListN.{length}
+use Prim.Native.Nat.{◌*◌, ◌-◌, ◌≤◌}
+use mathlib.Core.Path.{◌≡◌}
 use Rattle.weights.specs.Languages.{places_of}
-use Rattle.weights.specs.Values.{AtMost}
 use Rattle.weights.specs.Sizes.{places, weight_words}
-use Rattle.matrices.specs.Buffers.{entry_place, matrix_in}
-use Rattle.matrices.proofs.Entries.{row_room, cell_is}
-use Rattle.matrices.proofs.Blocks.{place_room}
+use Rattle.matrices.specs.Buffers.{matrix_in}
 use Rattle.tables.specs.Tables.{table_in}
 use Rattle.modes.specs.Entries.{entry_of}
-use Rattle.tables.proofs.Summing.{over, over_none, over_next, over_all, route_most, entry_most}
-use Rattle.tables.proofs.Rooms.{in_table}
+use Rattle.tables.proofs.Summing.{over}
 use Rattle.sums.proofs.forward_entry.Given as goal
 
 abbrev pub invariant-loop-k : goal.invariant-loop-k

@@ -1,19 +1,15 @@
-use Prim.Native.Nat.{ℕ, ◌*◌, ◌-◌, ◌≤◌}
-use mathlib.Core.List.{List, ◌++◌}
-use mathlib.Core.Path.{◌≡◌, ap, ◌∙◌}
-use native.Mathlib.Omega.{arith}
-use lib.ListN.{take, drop}
+use Prim.Native.Nat.{ℕ, ◌-◌, ◌≤◌}
+use mathlib.Core.List.{List}
 use Rattle.algebra.specs.Modes.{forwarded}
 use Rattle.weights.specs.Languages.{places_of}
 use Rattle.weights.specs.Weights.{language}
 use Rattle.weights.specs.Sizes.{places, entry_words}
 use Rattle.weights.specs.declared.Places.{Places}
 use Rattle.matrices.specs.Buffers.{matrix_in}
-use Rattle.matrices.proofs.Blocks.{Filled, filled_none, filled_put, filled_is}
+use Rattle.matrices.proofs.Blocks.{Filled}
 use Rattle.tables.specs.Tables.{words_of, table_in}
 use Rattle.modes.specs.Entries.{mode_of}
 use Rattle.modes.specs.declared.Mode.{Mode}
-use Rattle.tables.proofs.TableBlocks.{length_entry, write_is}
 use Rattle.sums.proofs.forward_row.Given as goal
 
 abbrev pub block : Places → Mode → ℕ → ℕ → List ℕ → List ℕ → ℕ → ℕ → List ℕ

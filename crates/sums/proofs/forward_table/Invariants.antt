@@ -1,20 +1,15 @@
-use Prim.Native.Nat.{ℕ, ◌+◌, ◌*◌, ◌-◌, ◌≤◌}
+use Prim.Native.Nat.{ℕ, ◌*◌, ◌-◌, ◌≤◌}
 use mathlib.Core.List.{List}
-use mathlib.Core.Path.{◌≡◌}
-use native.Mathlib.Omega.{arith}
-use lib.ListN.{length, length-drop}
 use Rattle.algebra.specs.Modes.{forwarded}
 use Rattle.weights.specs.Languages.{places_of}
 use Rattle.weights.specs.Weights.{language}
 use Rattle.weights.specs.Sizes.{places, entry_words}
 use Rattle.weights.specs.declared.Places.{Places}
 use Rattle.matrices.specs.Buffers.{matrix_in}
-use Rattle.matrices.proofs.Blocks.{Filled, filled_none, filled_lent, filled_all, lent_part}
+use Rattle.matrices.proofs.Blocks.{Filled}
 use Rattle.tables.specs.Tables.{table_row_words, table_in}
 use Rattle.modes.specs.Entries.{mode_of}
 use Rattle.modes.specs.declared.Mode.{Mode}
-use Rattle.tables.proofs.TableBlocks.{length_row}
-use Rattle.tables.proofs.Rooms.{table_small, row_within}
 use Rattle.sums.proofs.forward_table.Given as goal
 
 abbrev pub row : Places → Mode → ℕ → ℕ → List ℕ → List ℕ → ℕ → List ℕ

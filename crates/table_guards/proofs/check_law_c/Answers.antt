@@ -1,7 +1,6 @@
 use mathlib.Core.Bool.{true, false}
 use Rattle.weights.specs.Languages.{places_of}
 use mathlib.Core.Path.{sym, ◌∙◌}
-use borrow.Author.Tests.{not-true, not-false}
 use Rattle.table_guards.proofs.TableSingles.{law_c_free, law_c_tested}
 use Rattle.table_guards.proofs.check_law_c.Goals as goal
 

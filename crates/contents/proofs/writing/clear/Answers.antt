@@ -1,8 +1,6 @@
 use native.Mathlib.Omega.{arith}
-use Prim.Native.Nat.{◌-◌, ◌≤◌}
 use mathlib.Core.Path.{◌≡◌, refl}
-use mathlib.Core.List.{◌++◌}
-use lib.ListN.{length, length-set, drop, replicate}
+use lib.ListN.{length-set}
 use Rattle.weights.specs.Sizes.{ones}
 use Rattle.contents.proofs.Tables.{clear_more}
 use Rattle.contents.proofs.writing.clear.Goals as goal

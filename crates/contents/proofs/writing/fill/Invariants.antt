@@ -1,10 +1,7 @@
-use native.Mathlib.Omega.{arith}
 use mathlib.Core.Path.{◌≡◌}
 use Prim.Native.Nat.{◌+◌, ◌*◌, ◌-◌, ◌≤◌}
-use native.Mathlib.Nat.{zero-mul, add-zero}
 use Rattle.records.specs.Records.{length_of}
-use Rattle.contents.proofs.Tables.{product}
-use Rattle.contents.proofs.Storing.{Stored, stored_none, stored_more, stored_all}
+use Rattle.contents.proofs.Storing.{Stored}
 use Rattle.contents.proofs.writing.fill.Given as goal
 
 abbrev pub invariant-loop-e : goal.invariant-loop-e

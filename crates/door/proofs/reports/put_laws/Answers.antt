@@ -6,7 +6,7 @@ use Rattle.door.proofs.Stored.{after, front}
 use Rattle.door.proofs.reports.put_laws.Goals as goal
 
 pub returns : goal.returns
-returns c = let a = c.args in     let s = a.report.now in
+returns c = let a = c.args in let s = a.report.now in
     let d = law_words (law_of a.d) in
     let u = law_words (law_of a.u) in
     let w = law_words (law_of a.c) in

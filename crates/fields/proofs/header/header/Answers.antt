@@ -22,7 +22,9 @@ returns-in-Taken c = let found = rw c.nothing.ensures at c.language-read.ensures
     let fine = sym c.fields_check-checked.ensures ∙ c.in-Passed.is in
     let small = fields_small c.args.file.now fine in
     let adv = rw (c.in-Taken.is, c.nothing.ensures) at c.language-read.ensures.advances in
-    record { value = rw (fine, sym found ∙ c.in-Taken.is, c.byte-mode.ensures.0, c.byte-m.ensures.0, c.byte-n.ensures.0); small_head_read = (
+    record {
+      value = rw (fine, sym found ∙ c.in-Taken.is, c.byte-mode.ensures.0, c.byte-m.ensures.0, c.byte-n.ensures.0);
+      small_head_read = (
         record {
           nodes = omega (arith, small.0, c.byte-n.ensures.0);
           destinations = omega (arith, small.1, c.byte-m.ensures.0);
@@ -30,4 +32,5 @@ returns-in-Taken c = let found = rw c.nothing.ensures at c.language-read.ensures
         },
         adv.inside,
         omega (arith, adv.near, adv.counted, adv.few),
-      ) }
+      );
+    }

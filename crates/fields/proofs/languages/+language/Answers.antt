@@ -1,9 +1,8 @@
 use native.Mathlib.Omega.{arith}
 use mathlib.Core.Path.{sym, ◌∙◌}
-use lib.ListN.{length}
 use Rattle.weights.specs.Sizes.{product_tags}
 use Rattle.fields.proofs.Advancing.{advances, read_end, read_fourth, read_product, read_component}
-use Prim.Native.Nat.{ℕ, suc, ◌-◌, ◌<◌}
+use Prim.Native.Nat.{suc}
 use Rattle.fields.proofs.languages.+language.Goals as goal
 
 pub returns-then-file-i : goal.returns-then-file-i
@@ -18,11 +17,11 @@ pub with_tag-requires : goal.with_tag-requires
 with_tag-requires t c = let p = c.requires in p.few
 
 pub language-left-requires : goal.language-left-requires
-language-left-requires t c = let p = c.requires in     let l = c.if-file-i.false in     rw c.with_tag.ensures (omega arith, record { near = omega (arith, p.near); few = omega arith; fewer = omega (arith, p.fewer) })
+language-left-requires t c = let p = c.requires in let l = c.if-file-i.false in rw c.with_tag.ensures (omega arith, record { near = omega (arith, p.near); few = omega arith; fewer = omega (arith, p.fewer) })
 
 pub language-requires : goal.language-requires
 language-requires t c = let h = rw (c.with_tag.ensures, c.in-Taken.is) at c.language-left.ensures.advances in
-    let p = c.requires in     (omega (arith, h.onward, h.inside), record { near = omega (arith, h.near, p.near); few = h.few; fewer = omega (arith, h.counted, p.fewer) })
+    let p = c.requires in (omega (arith, h.onward, h.inside), record { near = omega (arith, h.near, p.near); few = h.few; fewer = omega (arith, h.counted, p.fewer) })
 
 pub returns-in-Taken : goal.returns-in-Taken
 returns-in-Taken t c = let a = c.args in
@@ -38,7 +37,7 @@ returns-in-Refused t c = let a = c.args in
     record { value = sym (rw (← e) at r); advances = tt }
 
 pub component-requires : goal.component-requires
-component-requires t c = let p = c.requires in     (c.if-file-i.false, omega (arith, p.near, p.few, p.fewer), omega (arith, p.few, p.fewer))
+component-requires t c = let p = c.requires in (c.if-file-i.false, omega (arith, p.near, p.few, p.fewer), omega (arith, p.few, p.fewer))
 
 pub returns : goal.returns
 returns t c = let a = c.args in

@@ -1,11 +1,5 @@
 use Rattle.guards.specs.OnNetwork.{on_network}
 use Rattle.handover.proofs.Order.{handover_stops, squares, own_then, handover_given}
-use Rattle.guards.proofs.check_length.Reads as check-length-reads
-use Rattle.guards.proofs.check_node.Reads as check-node-reads
-use Rattle.guards.proofs.check_nodes.Reads as check-nodes-reads
-use Rattle.guards.proofs.entrance.enter.Reads as enter-reads
-use Rattle.matrices.proofs.checks.first_malformed.Reads as first-malformed-reads
-use Rattle.refusals.proofs.checks.or_else.Reads as or-else-reads
 use Rattle.handover.proofs.checks.ready.Goals as goal
 
 pub first_malformed-arcs-requires : goal.first_malformed-arcs-requires

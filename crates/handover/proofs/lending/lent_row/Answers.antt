@@ -5,11 +5,11 @@ use Rattle.handover.proofs.Answers.{newer_says, standing_says, sized, row_newer,
 use Rattle.handover.proofs.lending.lent_row.Goals as goal
 
 pub row_of-requires : goal.row_of-requires
-row_of-requires c = let a = c.args in     let z = sized (on_network a.l a.n a.a.now) a.standing.now a.newer.now a.i (newer_says (on_network a.l a.n a.a.now) a.standing.now a.newer.now a.i (rw c.in-Newer.is at c.lender.ensures)).0 in
+row_of-requires c = let a = c.args in let z = sized (on_network a.l a.n a.a.now) a.standing.now a.newer.now a.i (newer_says (on_network a.l a.n a.a.now) a.standing.now a.newer.now a.i (rw c.in-Newer.is at c.lender.ensures)).0 in
     (z.new_square, z.node)
 
 pub row_of-requires-in-Standing : goal.row_of-requires-in-Standing
-row_of-requires-in-Standing c = let a = c.args in     let z = sized (on_network a.l a.n a.a.now) a.standing.now a.newer.now a.i (standing_says (on_network a.l a.n a.a.now) a.standing.now a.newer.now a.i (rw c.in-Standing.is at c.lender.ensures)).0 in
+row_of-requires-in-Standing c = let a = c.args in let z = sized (on_network a.l a.n a.a.now) a.standing.now a.newer.now a.i (standing_says (on_network a.l a.n a.a.now) a.standing.now a.newer.now a.i (rw c.in-Standing.is at c.lender.ensures)).0 in
     (z.standing_square, z.node)
 
 pub returns-in-Newer : goal.returns-in-Newer

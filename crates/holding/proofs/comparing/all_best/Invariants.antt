@@ -1,9 +1,7 @@
 use Prim.Native.Nat.{ℕ, ◌-◌, ◌≤◌}
-use mathlib.Core.Path.{◌≡◌, sym, ap, ◌∙◌}
+use mathlib.Core.Path.{◌≡◌}
 use mathlib.Core.Bool.{true}
 use mathlib.Core.List.{List}
-use native.Mathlib.Omega.{arith}
-use borrow.Author.Tests.{not-true, not-false}
 use Rattle.algebra.specs.Best.{best}
 use Rattle.weights.specs.declared.Places.{Places}
 use Rattle.weights.specs.Sizes.{places}
@@ -11,9 +9,7 @@ use Rattle.weights.specs.Weights.{language}
 use Rattle.weights.specs.Languages.{places_of}
 use Rattle.matrices.specs.Buffers.{matrix_in}
 use Rattle.matrices.specs.Steps.{Matrix, every}
-use Rattle.matrices.proofs.Every.{every_none, every_more, every_false}
 use Rattle.holding.specs.Holding.{column_has}
-use Rattle.holding.proofs.Words.{all_words}
 use Rattle.holding.proofs.comparing.all_best.Given as goal
 
 abbrev pub bests : Places → ℕ → List ℕ → Matrix

@@ -8,4 +8,4 @@ use Rattle.holding.proofs.Words.{column_has_lem}
 use Rattle.holding.proofs.comparing.column_best.Goals as goal
 
 pub returns : goal.returns
-returns c = let a = c.args in     c.column_same.ensures ∙ column_has_lem a.n a.s.now _ _ (best (language (places_of a.p)) a.n (matrix_in places a.n a.a.now)) a.j c.settle_column.ensures
+returns c = let a = c.args in c.column_same.ensures ∙ column_has_lem a.n a.s.now _ _ (best (language (places_of a.p)) a.n (matrix_in places a.n a.a.now)) a.j c.settle_column.ensures

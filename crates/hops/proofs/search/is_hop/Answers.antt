@@ -40,12 +40,12 @@ weight_at-y-requires c = let route-room : (entry_place c.args.n c.args.k c.args.
 
 pub join-through-requires : goal.join-through-requires
 join-through-requires c = let a = c.args in (
-      subst (AtMost 2147483647) (cell_is a.a.now (entry_place a.n a.i a.k) ∙ sym c.weight_at-x.ensures)
-          (most_weaken arc_sum 2147483647 (matrix_in places a.n a.a.now a.i a.k) (omega arith) (formed_most arc_sum a.p a.n a.a.now (omega arith) c.requires.0.limits c.requires.0.arcs a.i a.k c.requires.1 c.requires.3)),
-      subst (AtMost 2147483647) (cell_is a.r.now (entry_place a.n a.k a.j) ∙ sym c.weight_at-y.ensures)
-          (most_weaken matrix_sum 2147483647 (matrix_in places a.n a.r.now a.k a.j) (omega arith) (formed_most matrix_sum a.p a.n a.r.now (omega arith) c.requires.0.limits c.requires.0.routes a.k a.j c.requires.3 c.requires.2)),
-    )
+  subst (AtMost 2147483647) (cell_is a.a.now (entry_place a.n a.i a.k) ∙ sym c.weight_at-x.ensures)
+      (most_weaken arc_sum 2147483647 (matrix_in places a.n a.a.now a.i a.k) (omega arith) (formed_most arc_sum a.p a.n a.a.now (omega arith) c.requires.0.limits c.requires.0.arcs a.i a.k c.requires.1 c.requires.3)),
+  subst (AtMost 2147483647) (cell_is a.r.now (entry_place a.n a.k a.j) ∙ sym c.weight_at-y.ensures)
+      (most_weaken matrix_sum 2147483647 (matrix_in places a.n a.r.now a.k a.j) (omega arith) (formed_most matrix_sum a.p a.n a.r.now (omega arith) c.requires.0.limits c.requires.0.routes a.k a.j c.requires.3 c.requires.2)),
+)
 
 pub returns : goal.returns
-returns c = let a = c.args in     let x = c.weight_at-x in     let y = c.weight_at-y in     hop_other (places_of a.p) (matrix_in places a.n a.a.now) (matrix_in places a.n a.r.now) a.i a.j a.k (weight_of x.result) (weight_of y.result) (weight_of c.join-through.result) (weight_of a.route)
+returns c = let a = c.args in let x = c.weight_at-x in let y = c.weight_at-y in hop_other (places_of a.p) (matrix_in places a.n a.a.now) (matrix_in places a.n a.r.now) a.i a.j a.k (weight_of x.result) (weight_of y.result) (weight_of c.join-through.result) (weight_of a.route)
     c.if-k-i.false (x.ensures ∙ sym (cell_is a.a.now (entry_place a.n a.i a.k))) (y.ensures ∙ sym (cell_is a.r.now (entry_place a.n a.k a.j))) c.join-through.ensures c.requires.4 c.same.ensures

@@ -1,11 +1,9 @@
 use Prim.Native.Nat.{◌-◌, ◌≤◌}
-use mathlib.Core.Path.{◌≡◌, sym, ◌∙◌}
-use native.Mathlib.Omega.{arith}
+use mathlib.Core.Path.{◌≡◌}
 use Rattle.weights.specs.Sizes.{places}
 use Rattle.weights.specs.Languages.{places_of}
 use Rattle.matrices.specs.Buffers.{matrix_in}
 use Rattle.hops.specs.NextHop.{is_hop, lowest_from}
-use Rattle.hops.proofs.Searching.{lowest_start, lowest_here, lowest_later, lowest_end}
 use Rattle.hops.proofs.search.lowest_hop.Given as goal
 
 abbrev pub invariant-loop-k : goal.invariant-loop-k

@@ -32,11 +32,11 @@ slice_bounds-put_worked-end-4 c = sym (length-take-le _ (replicate {A = ℕ} 256
 
 pub put_worked-requires : goal.put_worked-requires
 put_worked-requires c = (
-      c.requires.0,
-      c.requires.1,
-      c.requires.2,
-      c.requires.3,
-      zeros (c.args.n * (c.args.n * 4)) 1024 (matrix_small c.args.n c.requires.1),
-      zeros (c.args.n * (c.args.m * 5)) 2560 (table_small c.args.n c.args.m c.requires.1 c.requires.2),
-      c.requires.6,
-    )
+  c.requires.0,
+  c.requires.1,
+  c.requires.2,
+  c.requires.3,
+  zeros (c.args.n * (c.args.n * 4)) 1024 (matrix_small c.args.n c.requires.1),
+  zeros (c.args.n * (c.args.m * 5)) 2560 (table_small c.args.n c.args.m c.requires.1 c.requires.2),
+  c.requires.6,
+)

@@ -1,8 +1,6 @@
-use Prim.Native.Nat.{◌+◌, ◌-◌, ◌≤◌}
 use mathlib.Core.Path.{◌≡◌}
 use native.Mathlib.Omega.{arith}
-use Rattle.texts.proofs.Growing.{Grown}
-use Rattle.printing.proofs.Sweeping.{alone, sweep_none, sweep_more}
+use Rattle.printing.proofs.Sweeping.{sweep_none, sweep_more}
 use Rattle.printing.proofs.work.put_sweep.Goals as goal
 
 pub loop-i-init : goal.loop-i-init

@@ -1,8 +1,6 @@
 use Prim.Native.Nat.{◌+◌, ◌-◌, ◌≤◌}
-use mathlib.Core.Path.{◌≡◌}
-use native.Mathlib.Omega.{arith}
 use Rattle.texts.proofs.Growing.{Grown}
-use Rattle.printing.proofs.Sweeping.{alone, sweep_none, sweep_more}
+use Rattle.printing.proofs.Sweeping.{alone}
 use Rattle.printing.proofs.work.put_sweep.Given as goal
 
 abbrev pub invariant-loop-i : goal.invariant-loop-i

@@ -1,8 +1,7 @@
-use Prim.Native.Nat.{◌*◌, ◌-◌, ◌≤◌}
+use Prim.Native.Nat.{◌-◌}
 use mathlib.Core.Path.{◌≡◌}
 use native.Mathlib.Omega.{arith}
-use Rattle.texts.proofs.Growing.{Grown}
-use Rattle.printing.proofs.Sweeping.{round, sweeps_none, sweeps_more, sweep_room}
+use Rattle.printing.proofs.Sweeping.{sweeps_none, sweeps_more, sweep_room}
 use Rattle.printing.proofs.work.put_sweeps.Goals as goal
 
 pub loop-t-init : goal.loop-t-init

@@ -1,8 +1,6 @@
 use Prim.Native.Nat.{◌*◌, ◌-◌, ◌≤◌}
-use mathlib.Core.Path.{◌≡◌}
-use native.Mathlib.Omega.{arith}
 use Rattle.texts.proofs.Growing.{Grown}
-use Rattle.printing.proofs.Sweeping.{round, sweeps_none, sweeps_more, sweep_room}
+use Rattle.printing.proofs.Sweeping.{round}
 use Rattle.printing.proofs.work.put_sweeps.Given as goal
 
 abbrev pub invariant-loop-t : goal.invariant-loop-t

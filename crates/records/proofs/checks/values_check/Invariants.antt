@@ -1,10 +1,8 @@
-use native.Mathlib.Omega.{arith}
-use mathlib.Core.Path.{◌≡◌, sym, ◌∙◌}
-use borrow.Author.Tests.{not-true, not-false}
+use mathlib.Core.Path.{◌≡◌}
 use Prim.Native.Nat.{◌-◌, ◌≤◌}
 use Rattle.weights.specs.Languages.{components_of}
 use Rattle.records.specs.Records.{values_check}
-use Rattle.records.proofs.Remaining.{left_check, values_more, values_none, values_all}
+use Rattle.records.proofs.Remaining.{left_check}
 use Rattle.records.proofs.checks.values_check.Given as goal
 
 abbrev pub invariant-loop-k : goal.invariant-loop-k

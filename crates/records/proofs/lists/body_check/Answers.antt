@@ -6,22 +6,22 @@ use Rattle.records.proofs.lists.body_check.Goals as goal
 pub returns-then-end-file : goal.returns-then-end-file
 unfolding body_check
 returns-then-end-file c = rw (
-      c.or_else-then-end-file.ensures,
-      c.or_else.ensures,
-      c.record_list_check-arcs.ensures,
-      c.record_list_check-attachments.ensures,
-      c.list_end-end.ensures.0,
-      c.list_end-after_arcs.ensures.0,
-      lt-leb _ _ (rw (c.list_end-end.ensures.0, c.list_end-after_arcs.ensures.0) at c.if-end-file.true),
-    )
+  c.or_else-then-end-file.ensures,
+  c.or_else.ensures,
+  c.record_list_check-arcs.ensures,
+  c.record_list_check-attachments.ensures,
+  c.list_end-end.ensures.0,
+  c.list_end-after_arcs.ensures.0,
+  lt-leb _ _ (rw (c.list_end-end.ensures.0, c.list_end-after_arcs.ensures.0) at c.if-end-file.true),
+)
 
 pub returns : goal.returns
 unfolding body_check
 returns c = rw (
-      c.or_else-2.ensures,
-      c.record_list_check-arcs.ensures,
-      c.record_list_check-attachments.ensures,
-      c.list_end-after_arcs.ensures.0,
-      le-leb _ _ (rw (c.list_end-end.ensures.0, c.list_end-after_arcs.ensures.0) at c.if-end-file.false),
-      or_passed,
-    )
+  c.or_else-2.ensures,
+  c.record_list_check-arcs.ensures,
+  c.record_list_check-attachments.ensures,
+  c.list_end-after_arcs.ensures.0,
+  le-leb _ _ (rw (c.list_end-end.ensures.0, c.list_end-after_arcs.ensures.0) at c.if-end-file.false),
+  or_passed,
+)

@@ -1,9 +1,6 @@
-use native.Mathlib.Omega.{arith}
-use mathlib.Core.Path.{◌≡◌, sym, ◌∙◌}
+use mathlib.Core.Path.{◌≡◌}
 use Prim.Native.Nat.{◌+◌, ◌*◌, ◌-◌, ◌≤◌}
-use native.Mathlib.Nat.{sub-zero}
 use Rattle.records.specs.Records.{records_check}
-use Rattle.records.proofs.Remaining.{records_more, records_none}
 use Rattle.records.proofs.lists.records_check.Given as goal
 
 abbrev pub invariant-loop-e : goal.invariant-loop-e

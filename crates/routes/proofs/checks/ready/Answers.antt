@@ -1,10 +1,5 @@
 use Rattle.guards.specs.OnNetwork.{on_network}
 use Rattle.routes.proofs.Order.{matrices_stop, squares, entries_then, matrices_given}
-use Rattle.guards.proofs.check_length.Reads as check-length-reads
-use Rattle.guards.proofs.check_nodes.Reads as check-nodes-reads
-use Rattle.guards.proofs.entrance.enter.Reads as enter-reads
-use Rattle.matrices.proofs.checks.first_malformed.Reads as first-malformed-reads
-use Rattle.refusals.proofs.checks.or_else.Reads as or-else-reads
 use Rattle.routes.proofs.checks.ready.Goals as goal
 
 pub first_malformed-arcs-requires : goal.first_malformed-arcs-requires

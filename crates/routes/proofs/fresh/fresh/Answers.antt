@@ -1,9 +1,5 @@
 use Rattle.routes.proofs.Order.{fresh_stops, fresh_enters}
 use Rattle.routes.proofs.Answers.{fresh_done, fresh_refused}
-use Rattle.guards.proofs.check_length.Reads as check-length-reads
-use Rattle.guards.proofs.check_nodes.Reads as check-nodes-reads
-use Rattle.guards.proofs.entrance.enter.Reads as enter-reads
-use Rattle.matrices.proofs.fresh.fresh.Reads as fresh-reads
 use Rattle.routes.proofs.fresh.fresh.Goals as goal
 
 pub fresh-requires : goal.fresh-requires

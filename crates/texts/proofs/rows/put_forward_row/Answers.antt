@@ -1,9 +1,5 @@
-use Prim.Native.Nat.{ℕ, ◌-◌, ◌≤◌}
-use mathlib.Core.List.{List}
 use native.Mathlib.Omega.{arith}
-use Rattle.tables.specs.Tables.{table_in}
-use Rattle.texts.specs.Lines.{entry_line}
-use Rattle.texts.proofs.Growing.{Grown, grown_none, grown_more, grown_all}
+use Rattle.texts.proofs.Growing.{grown_none, grown_more, grown_all}
 use Rattle.texts.proofs.rows.put_forward_row.Invariants.{line}
 use Rattle.texts.proofs.rows.put_forward_row.Goals as goal
 

@@ -1,10 +1,7 @@
-use Prim.Native.Nat.{ℕ, ◌*◌, ◌-◌, ◌≤◌}
-use mathlib.Core.List.{List}
+use Prim.Native.Nat.{◌*◌}
 use native.Mathlib.Omega.{arith}
 use Rattle.matrices.proofs.Blocks.{block_room}
-use Rattle.tables.specs.Tables.{table_in}
-use Rattle.texts.specs.Lines.{entry_row}
-use Rattle.texts.proofs.Growing.{Grown, grown_none, grown_more, grown_all}
+use Rattle.texts.proofs.Growing.{grown_none, grown_more, grown_all}
 use Rattle.texts.proofs.rows.put_forwards.Invariants.{row}
 use Rattle.texts.proofs.rows.put_forwards.Goals as goal
 

@@ -1,10 +1,8 @@
 use Prim.Native.Nat.{ℕ, ◌*◌, ◌-◌, ◌≤◌}
 use mathlib.Core.List.{List}
-use native.Mathlib.Omega.{arith}
-use Rattle.matrices.proofs.Blocks.{block_room}
 use Rattle.tables.specs.Tables.{table_in}
 use Rattle.texts.specs.Lines.{entry_row}
-use Rattle.texts.proofs.Growing.{Grown, grown_none, grown_more, grown_all}
+use Rattle.texts.proofs.Growing.{Grown}
 use Rattle.texts.proofs.rows.put_forwards.Given as goal
 
 -- the lines of row i

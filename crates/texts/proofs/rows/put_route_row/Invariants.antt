@@ -1,9 +1,8 @@
 use Prim.Native.Nat.{ℕ, ◌-◌, ◌≤◌}
 use mathlib.Core.List.{List}
-use native.Mathlib.Omega.{arith}
 use Rattle.matrices.specs.Buffers.{matrix_in}
 use Rattle.texts.specs.Lines.{route_line}
-use Rattle.texts.proofs.Growing.{Grown, grown_none, grown_more, grown_all}
+use Rattle.texts.proofs.Growing.{Grown}
 use Rattle.texts.proofs.rows.put_route_row.Given as goal
 
 -- line j of the row

@@ -1,10 +1,8 @@
 use Prim.Native.Nat.{ℕ, ◌*◌, ◌-◌, ◌≤◌}
 use mathlib.Core.List.{List}
-use native.Mathlib.Omega.{arith}
 use Rattle.matrices.specs.Buffers.{matrix_in}
-use Rattle.matrices.proofs.Blocks.{block_room}
 use Rattle.texts.specs.Lines.{route_row}
-use Rattle.texts.proofs.Growing.{Grown, grown_none, grown_more, grown_all}
+use Rattle.texts.proofs.Growing.{Grown}
 use Rattle.texts.proofs.rows.put_routes.Given as goal
 
 -- the lines of row i
