@@ -25,3 +25,71 @@ pub fn read_full<R: Read>(input: &mut R, buffer: &mut [u8]) -> io::Result<usize>
     }
     Ok(done)
 }
+
+#[cfg(test)]
+mod tests {
+    use super::read_full;
+    use std::io;
+    use std::io::{ErrorKind, Read};
+    use std::test::Fail;
+
+    // Gives byte 7 so many times, one to a read, and then ends or fails.
+    #[derive(Drop)]
+    struct Dripping {
+        left: usize,
+        fails: bool,
+    }
+
+    impl Read for Dripping {
+        fn read(&mut self, buffer: &mut [u8]) -> io::Result<usize> {
+            if self.left == 0 {
+                if self.fails {
+                    return Err(io::Error::from(ErrorKind::BrokenPipe));
+                }
+                return Ok(0);
+            }
+            if buffer.is_empty() {
+                return Ok(0);
+            }
+            buffer[0] = 7;
+            self.left -= 1;
+            Ok(1)
+        }
+    }
+
+    #[test]
+    fn fills_the_buffer_by_many_reads(rt: HostRuntime) -> Result<(), Fail> {
+        let mut input = Dripping {
+            left: 9,
+            fails: true,
+        };
+        let mut buffer = [0u8; 4];
+        assert_eq!(rt; read_full(&mut input, &mut buffer)?, 4);
+        assert_eq!(rt; buffer, [7, 7, 7, 7]);
+        assert_eq!(rt; input.left, 5);
+        Ok(())
+    }
+
+    #[test]
+    fn gives_what_there_is_at_the_end(rt: HostRuntime) -> Result<(), Fail> {
+        let mut input = Dripping {
+            left: 3,
+            fails: false,
+        };
+        let mut buffer = [0u8; 4];
+        assert_eq!(rt; read_full(&mut input, &mut buffer)?, 3);
+        assert_eq!(rt; buffer, [7, 7, 7, 0]);
+        Ok(())
+    }
+
+    #[test]
+    fn hands_on_an_error_in_mid_stream(rt: HostRuntime) {
+        let mut input = Dripping {
+            left: 3,
+            fails: true,
+        };
+        let mut buffer = [0u8; 4];
+        let answer = read_full(&mut input, &mut buffer);
+        assert!(rt; answer.is_err());
+    }
+}
