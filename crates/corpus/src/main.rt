@@ -2,16 +2,15 @@
 #![tactic(auto)]
 
 use std::env::FillError;
-use std::io::ErrorKind;
 use std::rt::{Env, Files};
 use std::{fs, io, str};
 
 fn print_named(rt: &(impl Files + Print), name: &[u8]) -> io::Result<()> {
     rt.write_all(name)?;
     rt.write_all(b"\n")?;
-    // A path is text, so a name that is none cannot be opened.
+    // A path is text: a name that is none can't be opened.
     let Ok(path) = str::from_utf8(name) else {
-        return Err(io::Error::from(ErrorKind::InvalidFilename));
+        return rt.write_all(b"no such file\n");
     };
     match fs::open(rt, path) {
         Ok(mut file) => printer::print_from(&mut file, &mut io::writer(rt)),

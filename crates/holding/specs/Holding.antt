@@ -1,5 +1,5 @@
 -- The comparison of a buffer with a matrix, column by column. It joins the code to the test of a handover; nothing here has to be
--- believed: that all columns have the words exactly where the buffer is the words is `All-words` (proofs/Words).
+-- believed: that all columns have the words exactly where the buffer is the words is `all_words` (proofs/Words).
 use Rattle.std.specs.Prelude.{ℕ, ◌*◌, Bool, List}
 use Rattle.weights.specs.Sizes.{weight_words}
 use Rattle.weights.specs.Values.{same_values}
