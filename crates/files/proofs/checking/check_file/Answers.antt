@@ -1,11 +1,12 @@
 use mathlib.Core.Path.{sym, ◌∙◌}
 use borrow.Author.Tests.{eq-eqb, ne_eqb, le-leb, lt-leb}
+use lib.ListN.{length}
 use Rattle.files.specs.File.{file_read}
 use Rattle.files.proofs.checking.check_file.Goals as goal
 
 pub returns-then-file-lt4 : goal.returns-then-file-lt4
 unfolding file_read
-returns-then-file-lt4 c = record { value = rw (lt-leb 4 _ c.if-file-lt4.true); small_head_read = tt }
+returns-then-file-lt4 c = record { value = rw (lt-leb 4 (length c.args.file.now) c.if-file-lt4.true); small_head_read = tt }
 
 pub returns-then-counted-there : goal.returns-then-counted-there
 unfolding file_read
