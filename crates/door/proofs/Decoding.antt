@@ -6,13 +6,13 @@ use mathlib.Core.List.{List}
 use lib.ListN.{length, get_or}
 use borrow.Author.Tests.{eq-eqb, ne_eqb}
 use Rattle.refusals.specs.declared.Refusal.TheVariants.{BadCount}
-use Rattle.refusals.specs.declared.Check.TheVariants.{Refused}
 use Rattle.weights.specs.declared.Component.{Component}
 use Rattle.weights.specs.declared.Component.TheVariants.{Dist, Width, Class, Gain}
 use Rattle.weights.specs.declared.Language.{Language}
 use Rattle.weights.specs.Languages.{count_case, sound_limit}
 use Rattle.fields.specs.Nested.{no_language}
 use Rattle.door.specs.Languages.{language_numbers, component_of, language_of}
+use Rattle.std.specs.Prelude.{Err}
 
 module _ (kind limit : ℕ) where
   pub is_dist : kind ≡ 1 → Dist ≡ component_of kind limit
@@ -47,7 +47,7 @@ made_language s a b c d h p q r t = rw (eq-eqb (length s) language_numbers h, p,
 -- ---- refused
 
 -- a slice of another length than nine is refused 5
-pub length_refused : (s : List ℕ) → (length s ≡ language_numbers → ⊥) → (count_case (language_of s)).check ≡ Refused (BadCount 0 0)
+pub length_refused : (s : List ℕ) → (length s ≡ language_numbers → ⊥) → (count_case (language_of s)).check ≡ Err (BadCount 0 0)
 length_refused s h = ap (λ (l : Language). (count_case l).check) (sym (no_language_lem s h))
 
 -- a component of an unknown kind is unsound, whatever its limit: 4 at its index, where no earlier one is

@@ -8,7 +8,6 @@ use native.Mathlib.Omega.{arith}
 use borrow.Author.Tests.{le-leb, lt-ltb}
 use lib.Dec.{ltb, eqb}
 use lib.ListN.{length, get_or, drop, length-append}
-use Rattle.refusals.specs.declared.Check.TheVariants.{Passed}
 use Rattle.weights.specs.declared.Component.{Component}
 use Rattle.weights.specs.Weights.{route}
 use Rattle.weights.specs.Languages.{components_of}
@@ -21,6 +20,7 @@ use Rattle.records.specs.Records.{record_length, length_of, ends_at, ends_check,
 use Rattle.contents.specs.Contents.{columns, values_at, outside_at, with_outside, record_words, row_of_ends, column_of_ends, is_at, listed_words}
 use Rattle.encoded.specs.Encode.{ListEntry, SoundValues, SoundOutside, SoundEntry, SoundEntries, bytes2, value_bytes, outside_bytes, entry_bytes, entries_bytes, list_bytes, put}
 use Rattle.encoded.proofs.Here.{here, past, within, two_here}
+use Rattle.std.specs.Prelude.{Ok}
 
 -- entries that are sound for a head
 abbrev pub SoundFor : Head → Listing → ℕ → ListEntry → Type 0
@@ -46,7 +46,7 @@ sound_length [] (v ∷ vs) h = absurd h
 sound_length (c ∷ cs) [] h = absurd h
 sound_length (c ∷ cs) (v ∷ vs) h = ap suc (sound_length cs vs h.1)
 
-values_pass : (s : List ℕ) (cs : List Component) (vs : List ℕ) (at : ℕ) (l : List ℕ) → drop at s ≡ value_bytes vs ++ l → SoundValues cs vs → values_check s cs at ≡ Passed
+values_pass : (s : List ℕ) (cs : List Component) (vs : List ℕ) (at : ℕ) (l : List ℕ) → drop at s ≡ value_bytes vs ++ l → SoundValues cs vs → values_check s cs at ≡ Ok tt
 unfolding values_check
 values_pass s [] [] at l e ok = refl
 values_pass s [] (v ∷ vs) at l e ok = absurd ok
@@ -84,14 +84,14 @@ length_entry h k list low e ok =
     )
 
 pub record EntryHere (s : List ℕ) (h : Head) (list : Listing) (at low : ℕ) (e : ListEntry) : Type 0 where
-  pub passes : record_check s h list at low ≡ Passed
+  pub passes : record_check s h list at low ≡ Ok tt
   pub key : two_at s at ≡ e.row * 256 + e.column
   pub row_is : row_of_ends (ends_at s list at) ≡ e.row
   pub column_is : column_of_ends (ends_at s list at) ≡ e.column
   pub words_are : record_words s h list at ≡ with_outside list (words (route e.values)) e.outside
 
 ends_ok : (s : List ℕ) (h : Head) (list : Listing) (at x y : ℕ) → get_or s at 0 ≡ x → get_or s (at + 1) 0 ≡ y → x < h.n → y < columns h list
-    → (ends_check h at (ends_at s list at) ≡ Passed) × (row_of_ends (ends_at s list at) ≡ x) × (column_of_ends (ends_at s list at) ≡ y)
+    → (ends_check h at (ends_at s list at) ≡ Ok tt) × (row_of_ends (ends_at s list at) ≡ x) × (column_of_ends (ends_at s list at) ≡ y)
 unfolding ends_check
 ends_ok s h Arcs at x y p q hx hy = (rw (p, q, lt-ltb x h.n hx, lt-ltb y h.n hy), p, q)
 ends_ok s h Attachments at x y p q hx hy = (rw (p, q, lt-ltb x h.n hx, lt-ltb y h.m hy), p, q)
@@ -128,7 +128,7 @@ entry_here s h c list at low e l into ok q =
     rw z at b.rest ∙ append_assoc (value_bytes e.values) (outside_bytes list h.mode e.outside) l in
     let n = ends_ok s h list at e.row e.column a.is b.is ok.row_in ok.column_in in
     let k : get_or s at 0 * 256 + get_or s (at + 1) 0 ≡ e.row * 256 + e.column = rw (a.is, b.is) in
-    let f : values_check s (components_of h.language) (at + 2) ≡ Passed =
+    let f : values_check s (components_of h.language) (at + 2) ≡ Ok tt =
     values_pass s (components_of h.language) e.values (at + 2) (outside_bytes list h.mode e.outside ++ l) v ok.sound in
     let w = within s (entry_bytes list h.mode e) l at into q in
     record {
@@ -147,7 +147,7 @@ entry_here s h c list at low e l into ok q =
 -- ---- lists of entries
 
 pub record EntriesHere (s : List ℕ) (h : Head) (list : Listing) (at low count : ℕ) (l : List ℕ) : Type 0 where
-  pub passes : records_check s h list at low count ≡ Passed
+  pub passes : records_check s h list at low count ≡ Ok tt
   pub rest : drop (at + count * length_of h list) s ≡ l
   pub into : at + count * length_of h list ≤ length s
 
@@ -175,7 +175,7 @@ entries_here s h c list (e ∷ es) at low l into ok q =
 
 -- a list with its count
 pub list_here : (s : List ℕ) (h : Head) → Counted h → (list : Listing) (es : List ListEntry) (at : ℕ) (l : List ℕ) → AllSound h list 0 es → drop at s ≡ list_bytes list h.mode es ++ l
-    → (record_list_check s h list at ≡ Passed) × (drop (list_end s h list at) s ≡ l) × (list_end s h list at ≤ length s)
+    → (record_list_check s h list at ≡ Ok tt) × (drop (list_end s h list at) s ≡ l) × (list_end s h list at ≤ length s)
 unfolding record_list_check list_end
 list_here s h c list es at l ok q =
     let b = two_here s at (length es) (entries_bytes list h.mode es ++ l) (q ∙ append_assoc (bytes2 (length es)) (entries_bytes list h.mode es) l) in

@@ -9,8 +9,6 @@ use lib.Dec.{leb, eqb}
 use lib.ListN.{length, get_or, drop, length-drop, drop_of_length-le}
 use Rattle.refusals.specs.declared.Refusal.{Refusal}
 use Rattle.refusals.specs.declared.Refusal.TheVariants.{Bytes as Cut, Version, Size}
-use Rattle.refusals.specs.declared.Check.{Check}
-use Rattle.refusals.specs.declared.Check.TheVariants.{Passed, Refused}
 use Rattle.refusals.proofs.First.{unless_passes, both_pass}
 use Rattle.weights.specs.declared.Component.{Component}
 use Rattle.weights.specs.declared.Language.{Language}
@@ -36,11 +34,13 @@ use Rattle.encoded.proofs.Here.{found_language, language_has, one_more_component
 use Rattle.encoded.proofs.Entries.{Counted}
 use Rattle.encoded.proofs.TakenLanguage.{one_more, two_more, two_small, language_of_lem}
 use Rattle.encoded.proofs.TakenLists.{list_of}
+use Rattle.refusals.specs.Checks.{Check}
+use Rattle.std.specs.Prelude.{Ok, Err}
 
 -- ---- the head
 
 pub record HeadAt (s : List ℕ) (next : ℕ) (h : Head) : Type 0 where
-  pub fields : fields_check s ≡ Passed
+  pub fields : fields_check s ≡ Ok tt
   pub found : Found
   pub taken : language_at s 8 nothing ≡ Taken next found
   pub n_is : get_or s 5 0 ≡ h.n
@@ -53,9 +53,9 @@ unfolding head_read
 head_at s next h e = go (fields_check s) (language_at s 8 nothing) refl refl e
   where
     go : (c : Check) (r : LanguageRead) → fields_check s ≡ c → language_at s 8 nothing ≡ r → head_from c s r ≡ Sound next h → HeadAt s next h
-    go (Refused q) r f l e = never_sound e
-    go Passed (NotTaken q) f l e = never_sound e
-    go Passed (Taken at found) f l e =
+    go (Err q) r f l e = never_sound e
+    go (Ok _) (NotTaken q) f l e = never_sound e
+    go (Ok tt) (Taken at found) f l e =
         let i : at ≡ next = cc in
         let j : ◌≡◌ {A = Head} (record { n = get_or s 5 0; m = get_or s 6 0; mode = get_or s 7 0; language = found.language }) h = cc in
         record {
@@ -73,8 +73,8 @@ unfolding file_read
 counted_head s next h e = go (count_right s) (head_read s) refl refl e
   where
     body : (at : ℕ) (k : Head) (c : Check) → head_once_checked at k c ≡ Sound next h → Sound at k ≡ Sound next h
-    body at k Passed e = e
-    body at k (Refused r) e = never_sound e
+    body at k (Ok _) e = e
+    body at k (Err r) e = never_sound e
 
     go : (b : Bool) (x : HeadRead) → count_right s ≡ b → head_read s ≡ x → cond b (with_body s x) (Faulty (Cut 0 0)) ≡ Sound next h → (count_right s ≡ true) × (head_read s ≡ Sound next h)
     go false x f g e = never_sound e
@@ -94,11 +94,11 @@ pub record Fields (s : List ℕ) : Type 0 where
 abbrev bad_mode : Refusal
 bad_mode = Size 0 7
 
-mode_room : (s : List ℕ) (b : Bool) → cond b (field_check s 7 bad_mode 0 0) (field_check s 7 bad_mode 1 3) ≡ Passed → 7 < length s
+mode_room : (s : List ℕ) (b : Bool) → cond b (field_check s 7 bad_mode 0 0) (field_check s 7 bad_mode 1 3) ≡ Ok tt → 7 < length s
 mode_room s true e = (field_passes s 7 bad_mode 0 0 e).0
 mode_room s false e = (field_passes s 7 bad_mode 1 3 e).0
 
-pub fields_at : (s : List ℕ) → fields_check s ≡ Passed → Fields s
+pub fields_at : (s : List ℕ) → fields_check s ≡ Ok tt → Fields s
 unfolding fields_check
 fields_at s e =
     let a = both_pass (field_check s 4 (Version 0 4) 1 1) _ e in
@@ -107,7 +107,7 @@ fields_at s e =
     let v = field_passes s 4 (Version 0 4) 1 1 a.0 in
     let n = field_passes s 5 (Size 0 5) 1 16 b.0 in
     let m = field_passes s 6 (Size 0 6) 0 32 c.0 in
-    let z : mode_field_check s ≡ Passed = c.1 in
+    let z : mode_field_check s ≡ Ok tt = c.1 in
     record {
       version = omega (arith, v.1, v.2);
       nodes = (n.1, n.2);

@@ -9,7 +9,6 @@ use borrow.Author.Tests.{leb-true}
 use lib.Dec.{ltb, leb}
 use lib.ListN.{length, get_or, drop}
 use Rattle.refusals.specs.declared.Refusal.TheVariants.{Bytes as Cut, NotAscending, Value}
-use Rattle.refusals.specs.declared.Check.TheVariants.{Passed}
 use Rattle.refusals.specs.Checks.{unless}
 use Rattle.refusals.proofs.First.{unless_passes, both_pass}
 use Rattle.weights.specs.declared.Component.{Component}
@@ -28,6 +27,7 @@ use Rattle.encoded.specs.Encode.{ListEntry, SoundValues, SoundOutside, no_outsid
 use Rattle.encoded.specs.Taken.{AreBytes}
 use Rattle.encoded.proofs.Entries.{SoundFor, AllSound, Counted}
 use Rattle.encoded.proofs.TakenLanguage.{one_more, two_more, two_small}
+use Rattle.std.specs.Prelude.{Ok}
 
 -- ---- values
 
@@ -39,7 +39,7 @@ values_of s at (suc c) by h =
     ∙ ap (λ (l : List ℕ). bytes2 (two_at s at) ++ l) (values_of s (at + 2) c by (omega arith) ∙ ap (λ (k : ℕ). value_bytes (values_at s (at + 2) c) ++ drop k s) z)
     ∙ sym (append_assoc (bytes2 (two_at s at)) (value_bytes (values_at s (at + 2) c)) (drop (at + suc c * 2) s))
 
-pub values_sound : (s : List ℕ) (cs : List Component) (at : ℕ) → values_check s cs at ≡ Passed → SoundValues cs (values_at s at (length cs))
+pub values_sound : (s : List ℕ) (cs : List Component) (at : ℕ) → values_check s cs at ≡ Ok tt → SoundValues cs (values_at s at (length cs))
 unfolding values_check
 values_sound s [] at e = tt
 values_sound s (c ∷ cs) at e =
@@ -105,7 +105,7 @@ pub record EntryOf (s : List ℕ) (h : Head) (list : Listing) (at low : ℕ) : T
   pub sound : SoundFor h list low (entry_at s h list at)
   pub into : at + length_of h list ≤ length s
 
-entry_of_lem : (s : List ℕ) (h : Head) → Counted h → (list : Listing) (at low : ℕ) → AreBytes s → record_check s h list at low ≡ Passed → EntryOf s h list at low
+entry_of_lem : (s : List ℕ) (h : Head) → Counted h → (list : Listing) (at low : ℕ) → AreBytes s → record_check s h list at low ≡ Ok tt → EntryOf s h list at low
 unfolding record_check two_at
 entry_of_lem s h c list at low by e =
     let f = both_pass (unless (leb (at + length_of h list) (length s)) (Cut 0 at)) _ e in
@@ -137,7 +137,7 @@ key_is : (s : List ℕ) (h : Head) (list : Listing) (at : ℕ) → two_at s at �
 unfolding two_at
 key_is s h list at = refl
 
-entries_of : (s : List ℕ) (h : Head) → Counted h → (list : Listing) (count at low : ℕ) → AreBytes s → records_check s h list at low count ≡ Passed → EntriesOf s h list at low count
+entries_of : (s : List ℕ) (h : Head) → Counted h → (list : Listing) (count at low : ℕ) → AreBytes s → records_check s h list at low count ≡ Ok tt → EntriesOf s h list at low count
 unfolding records_check
 entries_of s h c list zero at low by e =
     let z : at ≡ at + 0 * length_of h list = omega (arith, zero-mul (length_of h list)) in
@@ -162,7 +162,7 @@ pub record ListOf (s : List ℕ) (h : Head) (list : Listing) (at : ℕ) : Type 0
   pub bytes : drop at s ≡ list_bytes list h.mode entries ++ drop (list_end s h list at) s
   pub sound : AllSound h list 0 entries
 
-pub list_of : (s : List ℕ) (h : Head) → Counted h → (list : Listing) (at : ℕ) → AreBytes s → record_list_check s h list at ≡ Passed → ListOf s h list at
+pub list_of : (s : List ℕ) (h : Head) → Counted h → (list : Listing) (at : ℕ) → AreBytes s → record_list_check s h list at ≡ Ok tt → ListOf s h list at
 unfolding record_list_check list_end
 list_of s h c list at by e =
     let f = both_pass (unless (leb (at + 2) (length s)) (Cut 0 at)) _ e in

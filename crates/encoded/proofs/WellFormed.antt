@@ -10,7 +10,6 @@ use lib.Dec.{ltb, leb}
 use lib.ListN.{length, take, drop}
 use Rattle.refusals.specs.declared.Refusal.{Refusal}
 use Rattle.refusals.specs.declared.Refusal.TheVariants.{Bytes as Cut, NotAscending, Length}
-use Rattle.refusals.specs.declared.Check.TheVariants.{Passed}
 use Rattle.refusals.specs.Checks.{unless}
 use Rattle.refusals.proofs.OneToOne.{told_not_done}
 use Rattle.refusals.proofs.First.{both_pass}
@@ -46,6 +45,7 @@ use Rattle.encoded.proofs.TakenLists.{values_sound}
 use Rattle.encoded.proofs.Taken.{decode}
 use Rattle.encoded.proofs.Here.{language_has}
 use Rattle.encoded.proofs.Cells.{entry_at_lem}
+use Rattle.std.specs.Prelude.{Ok}
 
 -- ---- the values of records that pass
 
@@ -68,7 +68,7 @@ values_apart s at zero by = tt
 values_apart s at (suc c) by = omega (arith, two_small s at by)
 
 -- the words of a record that passes are read as its weight
-record_reads : (s : List ℕ) (h : Head) → Counted h → (at : ℕ) → AreBytes s → values_check s (components_of h.language) (at + 2) ≡ Passed
+record_reads : (s : List ℕ) (h : Head) → Counted h → (at : ℕ) → AreBytes s → values_check s (components_of h.language) (at + 2) ≡ Ok tt
     → reading arc_sum (components_of h.language) (words (record_weight s h at)) ≡ good (record_weight s h at)
 record_reads s h c at by e =
     let v = subst (λ (k : ℕ). SoundValues (components_of h.language) (values_at s (at + 2) k)) c.count_is (values_sound s (components_of h.language) (at + 2) e) in
@@ -79,9 +79,9 @@ record_reads s h c at by e =
     })
 
 ValuesPass : List ℕ → Head → Listing → ℕ → ℕ → Type 0
-ValuesPass s h list first count = (e : ℕ) → e < count → values_check s (components_of h.language) (first + e * length_of h list + 2) ≡ Passed
+ValuesPass s h list first count = (e : ℕ) → e < count → values_check s (components_of h.language) (first + e * length_of h list + 2) ≡ Ok tt
 
-records_values : (s : List ℕ) (h : Head) (list : Listing) (count at low : ℕ) → records_check s h list at low count ≡ Passed → ValuesPass s h list at count
+records_values : (s : List ℕ) (h : Head) (list : Listing) (count at low : ℕ) → records_check s h list at low count ≡ Ok tt → ValuesPass s h list at count
 unfolding records_check record_check ValuesPass
 records_values s h list zero at low f e l = absurd (omega arith)
 records_values s h list (suc count) at low f zero l =
@@ -93,7 +93,7 @@ records_values s h list (suc count) at low f (suc e) l =
     let q : at + suc e * length_of h list ≡ at + length_of h list + e * length_of h list = omega (arith, suc-mul e (length_of h list)) in
     rw q (records_values s h list count (at + length_of h list) (two_at s at + 1) (both_pass (record_check s h list at low) _ f).1 e (omega arith))
 
-list_values : (s : List ℕ) (h : Head) (list : Listing) (at : ℕ) → record_list_check s h list at ≡ Passed → ValuesPass s h list (at + 2) (two_at s at)
+list_values : (s : List ℕ) (h : Head) (list : Listing) (at : ℕ) → record_list_check s h list at ≡ Ok tt → ValuesPass s h list (at + 2) (two_at s at)
 unfolding record_list_check
 list_values s h list at f = records_values s h list (two_at s at) (at + 2) 0 (both_pass (unless (leb (at + 2) (length s)) (Cut 0 at)) _ f).1
 

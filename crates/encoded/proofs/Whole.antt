@@ -10,7 +10,6 @@ use lib.Dec.{eqb}
 use lib.ListN.{length, get_or, drop, length-drop}
 use Rattle.refusals.specs.declared.Refusal.{Refusal}
 use Rattle.refusals.specs.declared.Refusal.TheVariants.{Version, Size}
-use Rattle.refusals.specs.declared.Check.TheVariants.{Passed}
 use Rattle.weights.specs.declared.Component.{Component}
 use Rattle.weights.specs.Sizes.{places}
 use Rattle.fields.specs.declared.Head.{Head}
@@ -32,8 +31,9 @@ use Rattle.encoded.specs.Encode.{ListEntry, Problem, SoundEntries, SoundProblem,
 use Rattle.encoded.specs.Taken.{found_after, next_of, GivenBack}
 use Rattle.encoded.proofs.Here.{here, past, two_here, language_here, found_language, language_has, one_more_component}
 use Rattle.encoded.proofs.Entries.{AllSound, Counted, list_here, words_here}
+use Rattle.std.specs.Prelude.{Ok}
 
-field_ok : (s : List ℕ) (at : ℕ) (r : Refusal) (lo hi v : ℕ) → at < length s → get_or s at 0 ≡ v → lo ≤ v → v ≤ hi → field_check s at r lo hi ≡ Passed
+field_ok : (s : List ℕ) (at : ℕ) (r : Refusal) (lo hi v : ℕ) → at < length s → get_or s at 0 ≡ v → lo ≤ v → v ≤ hi → field_check s at r lo hi ≡ Ok tt
 unfolding field_check
 field_ok s at r lo hi v in_file e l h = rw (lt-ltb at (length s) in_file, e, le-leb lo v l, le-leb v hi h)
 
@@ -61,10 +61,10 @@ table_here s h c list es at l ok q =
         ∙ words_here s h c list i j (at + 2) es 0 0 l (rw z at room) ok (rw z at rest)
         ∙ ap (put list i j es) (none i j)
 
-mode_ok : (p : Problem) → SoundProblem p → (s : List ℕ) → get_or s 6 0 ≡ p.m → get_or s 7 0 ≡ p.mode → 7 < length s → mode_field_check s ≡ Passed
+mode_ok : (p : Problem) → SoundProblem p → (s : List ℕ) → get_or s 6 0 ≡ p.m → get_or s 7 0 ≡ p.mode → 7 < length s → mode_field_check s ≡ Ok tt
 mode_ok p ok s em eo r = rw em (go (eqb p.m 0) refl)
   where
-    go : (b : Bool) → eqb p.m 0 ≡ b → cond b (field_check s 7 (Size 0 7) 0 0) (field_check s 7 (Size 0 7) 1 3) ≡ Passed
+    go : (b : Bool) → eqb p.m 0 ≡ b → cond b (field_check s 7 (Size 0 7) 0 0) (field_check s 7 (Size 0 7) 1 3) ≡ Ok tt
     go true e = field_ok s 7 (Size 0 7) 0 0 p.mode r eo (omega arith) (omega (arith, ok.no_mode (eqb-true p.m 0 e)))
     go false e = let m = ok.some_mode (eqb-false p.m 0 e) in field_ok s 7 (Size 0 7) 1 3 p.mode r eo m.0 m.1
 

@@ -10,17 +10,17 @@ use borrow.Author.Tests.{eqb-true, eqb-false}
 use lib.Dec.{leb, eqb}
 use lib.ListN.{length}
 use Rattle.refusals.specs.declared.Refusal.TheVariants.{Bytes, Version, Size, BadComponent, BadCount}
-use Rattle.refusals.specs.declared.Check.{Check}
-use Rattle.refusals.specs.declared.Check.TheVariants.{Passed}
-use Rattle.refusals.specs.Checks.{unless, or_else}
+use Rattle.refusals.specs.Checks.{unless, Check}
+use Rattle.std.specs.Result.{result_and}
 use Rattle.refusals.specs.Cases.{Case, check_of, refusal_numbers}
-use Rattle.refusals.proofs.First.{or_passed, or_else_assoc}
+use Rattle.refusals.proofs.First.{or_passed, result_and_assoc}
 use Rattle.refusals.proofs.Tests.{both_exactly, either_exactly, implies_exactly, leb_exactly, eqb_exactly}
 use Rattle.refusals.proofs.Cases.{Exact, AllExact, unless_exact, no_more, ◌and◌, append_exact}
 use Rattle.file_bytes.specs.Bytes.{two_at}
 use Rattle.fields.specs.Nested.{dist_tag, width_tag, class_tag, product_tag}
 use Rattle.fields.specs.Header.{field_check, fields_check}
 use Rattle.fields.specs.Cases.{byte_at, cut_case, version_field, nodes_field, destinations_field, mode_agrees, mode_field, header_cases, tag_case, product_case, HasLimit, has_limit, limit_cut_case, width_case, tag_cases, after_component, nested_cases}
+use Rattle.std.specs.Prelude.{Ok}
 
 pub cut_exact : (s : List ℕ) (at size : ℕ) → Exact (cut_case s at size)
 cut_exact s at size = unless_exact (Bytes 0) at (leb_exactly (at + size) (length s))
@@ -64,17 +64,17 @@ header_exact s =
 pub header_check : (s : List ℕ) → fields_check s ≡ check_of (header_cases s)
 unfolding fields_check field_check
 header_check s =
-    ap (λ (c : Check). or_else (field_check s 4 (Version 0 4) 1 1) (or_else (field_check s 5 (Size 0 5) 1 16) (or_else (field_check s 6 (Size 0 6) 0 32) c))) (mode (eqb (byte_at s 6) 0))
+    ap (λ (c : Check). result_and (field_check s 4 (Version 0 4) 1 1) (result_and (field_check s 5 (Size 0 5) 1 16) (result_and (field_check s 6 (Size 0 6) 0 32) c))) (mode (eqb (byte_at s 6) 0))
     ∙ four (cut_case s 4 1).check (version_field s).check (cut_case s 5 1).check (nodes_field s).check (cut_case s 6 1).check (destinations_field s).check _
   where
     mode : (b : Bool)
         → cond b (field_check s 7 (Size 0 7) 0 0) (field_check s 7 (Size 0 7) 1 3)
-        ≡ or_else (cut_case s 7 1).check (or_else (unless (cond b (leb 0 (byte_at s 7) && leb (byte_at s 7) 0) (leb 1 (byte_at s 7) && leb (byte_at s 7) 3)) (Size 0 7)) Passed)
-    mode true = ap (or_else (cut_case s 7 1).check) (sym (or_passed _))
-    mode false = ap (or_else (cut_case s 7 1).check) (sym (or_passed _))
+        ≡ result_and (cut_case s 7 1).check (result_and (unless (cond b (leb 0 (byte_at s 7) && leb (byte_at s 7) 0) (leb 1 (byte_at s 7) && leb (byte_at s 7) 3)) (Size 0 7)) (Ok tt))
+    mode true = ap (result_and (cut_case s 7 1).check) (sym (or_passed _))
+    mode false = ap (result_and (cut_case s 7 1).check) (sym (or_passed _))
 
-    four : (a b c d e f g : Check) → or_else (or_else a b) (or_else (or_else c d) (or_else (or_else e f) g)) ≡ or_else a (or_else b (or_else c (or_else d (or_else e (or_else f g)))))
-    four a b c d e f g = simp or_else_assoc
+    four : (a b c d e f g : Check) → result_and (result_and a b) (result_and (result_and c d) (result_and (result_and e f) g)) ≡ result_and a (result_and b (result_and c (result_and d (result_and e (result_and f g)))))
+    four a b c d e f g = simp result_and_assoc
 
 -- ---- the language
 

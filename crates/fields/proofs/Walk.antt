@@ -8,8 +8,6 @@ use borrow.Author.Tests.{leb-true, leb-false, le-leb, lt-leb, eqb-true, eqb-fals
 use lib.Dec.{leb, eqb}
 use lib.ListN.{length}
 use Rattle.refusals.specs.declared.Refusal.TheVariants.{Bytes, BadCount}
-use Rattle.refusals.specs.declared.Check.{Check}
-use Rattle.refusals.specs.declared.Check.TheVariants.{Passed, Refused as NotPassed}
 use Rattle.refusals.specs.Cases.{Case, check_of}
 use Rattle.weights.specs.Sizes.{product_tags}
 use Rattle.fields.specs.declared.Found.{Found}
@@ -21,11 +19,13 @@ use Rattle.fields.specs.Parts.{Advances}
 use Rattle.fields.specs.Cases.{byte_at, tag_cases, after_component, nested_cases}
 use Rattle.fields.proofs.Cases.{positive}
 use Rattle.fields.proofs.Advancing.{by_test, advances, read_end, read_fourth, read_component, read_product}
+use Rattle.refusals.specs.Checks.{Check}
+use Rattle.std.specs.Prelude.{Ok, Err}
 
 -- the refusal of a language, or the check of what follows it
 abbrev pub once_read : LanguageRead → (ℕ → Found → Check) → Check
 once_read (Taken next f) k = k next f
-once_read (Refused r) k = NotPassed r
+once_read (Refused r) k = Err r
 
 -- a tag that is none of the five
 unknown : (t : ℕ) → (t ≡ 1 → ⊥) → (t ≡ 4 → ⊥) → (t ≡ 2 → ⊥) → (t ≡ 3 → ⊥) → (t ≡ 5 → ⊥) → (leb 1 t && leb t 5) ≡ false
@@ -77,7 +77,7 @@ module _ (s : List ℕ) where
   abbrev rest : ℕ → ℕ → Found → Check
   rest wanted next g = check_of (nested_cases s next (product_tags - g.tags) wanted)
 
-  at_end : (at left wanted : ℕ) → length s ≤ at → check_of (nested_cases s at left (suc wanted)) ≡ NotPassed (Bytes 0 at)
+  at_end : (at left wanted : ℕ) → length s ≤ at → check_of (nested_cases s at left (suc wanted)) ≡ Err (Bytes 0 at)
   unfolding nested_cases
   at_end at zero wanted h = rw (lt-leb (at + 1) (length s) (omega arith))
   at_end at (suc left) wanted h = rw (lt-leb (at + 1) (length s) (omega arith))
@@ -88,7 +88,7 @@ module _ (s : List ℕ) where
   at_component at zero wanted other = refl
   at_component at (suc left) wanted other = rw (ne_eqb (byte_at s at) product_tag other)
 
-  at_fourth : (at wanted : ℕ) → at < length s → byte_at s at ≡ product_tag → check_of (nested_cases s at zero (suc wanted)) ≡ NotPassed (BadCount 0 at)
+  at_fourth : (at wanted : ℕ) → at < length s → byte_at s at ≡ product_tag → check_of (nested_cases s at zero (suc wanted)) ≡ Err (BadCount 0 at)
   unfolding nested_cases
   at_fourth at wanted h e = rw (le-leb (at + 1) (length s) (omega arith), e)
 
@@ -135,15 +135,15 @@ module _ (s : List ℕ) where
           ∙ sym (ap (λ (r : LanguageRead). once_read r (rest wanted)) (read_component s at f h other))
 
 -- none is wanted
-ended : (s : List ℕ) (next left : ℕ) → check_of (nested_cases s next left 0) ≡ Passed
+ended : (s : List ℕ) (next left : ℕ) → check_of (nested_cases s next left 0) ≡ Ok tt
 unfolding nested_cases
 ended s next zero = refl
 ended s next (suc left) = refl
 
 -- The cases of a file's language refuse what its reading does.
-pub language_check_lem : (s : List ℕ) → check_of (nested_cases s 8 product_tags 1) ≡ once_read (language_at s 8 nothing) (λ next f. Passed)
+pub language_check_lem : (s : List ℕ) → check_of (nested_cases s 8 product_tags 1) ≡ once_read (language_at s 8 nothing) (λ next f. (Ok tt))
 language_check_lem s = walk s (suc product_tags) 8 nothing product_tags 0 (omega arith) refl ∙ last (language_at s 8 nothing)
   where
-    last : (r : LanguageRead) → once_read r (rest s 0) ≡ once_read r (λ next f. Passed)
+    last : (r : LanguageRead) → once_read r (rest s 0) ≡ once_read r (λ next f. (Ok tt))
     last (Taken next f) = ended s next (product_tags - f.tags)
     last (Refused x) = refl

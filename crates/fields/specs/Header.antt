@@ -1,11 +1,10 @@
 -- The header of a problem file, field by field, and the first refusal where it is wrong (01, "File" and "Refusal numbers").
 -- To be believed: all of it, but that its refusals are those of the file's words, which is proved (proofs/Cases).
-use Rattle.std.specs.Prelude.{ℕ, cond, ◌&&◌, List, ltb, leb, eqb, length, get_or}
+use Rattle.std.specs.Prelude.{ℕ, cond, ◌&&◌, List, ltb, leb, eqb, length, get_or, Ok, Err}
 use Rattle.refusals.specs.declared.Refusal.{Refusal}
 use Rattle.refusals.specs.declared.Refusal.TheVariants.{Bytes, Version, Size}
-use Rattle.refusals.specs.declared.Check.{Check}
-use Rattle.refusals.specs.declared.Check.TheVariants.{Passed, Refused}
-use Rattle.refusals.specs.Checks.{unless, or_else}
+use Rattle.refusals.specs.Checks.{unless, Check}
+use Rattle.std.specs.Result.{result_and}
 use Rattle.fields.specs.declared.LanguageRead.{LanguageRead}
 use Rattle.fields.specs.declared.LanguageRead.TheVariants.{Taken, Refused as NotTaken}
 use Rattle.fields.specs.declared.HeadRead.{HeadRead}
@@ -16,7 +15,7 @@ use Rattle.fields.specs.Nested.{nothing, language_at}
 
 -- a field of one byte: it is there, and lies in lo..hi
 unfoldable pub field_check : List ℕ → ℕ → Refusal → ℕ → ℕ → Check
-field_check s at r lo hi = or_else (unless (ltb at (length s)) (Bytes 0 at)) (unless (leb lo (get_or s at 0) && leb (get_or s at 0) hi) r)
+field_check s at r lo hi = result_and (unless (ltb at (length s)) (Bytes 0 at)) (unless (leb lo (get_or s at 0) && leb (get_or s at 0) hi) r)
 
 -- the mode is 0 exactly when m is 0
 abbrev pub mode_field_check : List ℕ → Check
@@ -25,13 +24,13 @@ mode_field_check s = cond (eqb (get_or s 6 0) 0) (field_check s 7 (Size 0 7) 0 0
 -- version 1, n 1..16, m 0..32, mode
 unfoldable pub fields_check : List ℕ → Check
 fields_check s =
-    or_else (field_check s 4 (Version 0 4) 1 1) (or_else (field_check s 5 (Size 0 5) 1 16) (or_else (field_check s 6 (Size 0 6) 0 32) (mode_field_check s)))
+    result_and (field_check s 4 (Version 0 4) 1 1) (result_and (field_check s 5 (Size 0 5) 1 16) (result_and (field_check s 6 (Size 0 6) 0 32) (mode_field_check s)))
 
 -- the first refusal of the fields and the language; else the head, and the offset after the language
 abbrev pub head_from : Check → List ℕ → LanguageRead → HeadRead
-head_from (Refused r) s l = Faulty r
-head_from Passed s (NotTaken r) = Faulty r
-head_from Passed s (Taken next f) = Sound next (record { n = get_or s 5 0; m = get_or s 6 0; mode = get_or s 7 0; language = f.language })
+head_from (Err r) s l = Faulty r
+head_from (Ok _) s (NotTaken r) = Faulty r
+head_from (Ok _) s (Taken next f) = Sound next (record { n = get_or s 5 0; m = get_or s 6 0; mode = get_or s 7 0; language = f.language })
 
 -- Version to language: the head and the offset of the arcs, or the first refusal.
 unfoldable pub head_read : List ℕ → HeadRead

@@ -7,9 +7,8 @@ use borrow.Author.Tests.{ltb-true, ltb-false, le-leb, lt-leb}
 use lib.Dec.{ltb}
 use lib.ListN.{length}
 use Rattle.refusals.specs.declared.Refusal.TheVariants.{Bytes, Length}
-use Rattle.refusals.specs.declared.Check.{Check}
-use Rattle.refusals.specs.declared.Check.TheVariants.{Passed, Refused}
-use Rattle.refusals.specs.Checks.{unless, or_else, check_told}
+use Rattle.refusals.specs.Checks.{unless, answer_told, Check}
+use Rattle.std.specs.Result.{result_and}
 use Rattle.refusals.specs.Cases.{check_of, refusal_numbers, ToldExactly, first_cases}
 use Rattle.refusals.proofs.Tests.{both_exactly, leb_exactly, eqb_exactly}
 use Rattle.refusals.proofs.Cases.{Exact, AllExact, unless_exact, no_more, ◌and◌, append_exact, check_in_turn, told_exactly}
@@ -29,6 +28,7 @@ use Rattle.records.proofs.Cases.{body_exact, body_check_lem}
 use Rattle.files.specs.File.{count_right, head_once_checked, with_body, file_read}
 use Rattle.files.specs.Answers.{head_row, refused_row, sized, file_row}
 use Rattle.files.specs.Cases.{short_case, bytes_case, after_language_cases, file_cases, read_cases}
+use Rattle.std.specs.Prelude.{Ok, Err}
 
 -- ---- each case is exact
 
@@ -55,37 +55,37 @@ read_numbers s arcs mapping = refl
 -- ---- and they are what the reader's definition refuses
 
 head_told : (s : List ℕ) (c : Check) (l : LanguageRead)
-    → (head_row (with_body s (head_from c s l))).told ≡ check_told (or_else c (or_else (once_read l (λ next f. Passed)) (check_of (after_language_cases s l))))
-head_told s (Refused r) l = refl
-head_told s Passed (NotTaken r) = refl
-head_told s Passed (Taken next f) = once next _ (body_check s _ next) ∙ ap check_told (body_check_lem s _ next)
+    → (head_row (with_body s (head_from c s l))).told ≡ answer_told (result_and c (result_and (once_read l (λ next f. (Ok tt))) (check_of (after_language_cases s l))))
+head_told s (Err r) l = refl
+head_told s (Ok _) (NotTaken r) = refl
+head_told s (Ok _) (Taken next f) = once next _ (body_check s _ next) ∙ ap answer_told (body_check_lem s _ next)
   where
-    once : (next : ℕ) (h : Head) (c : Check) → (head_row (head_once_checked next h c)).told ≡ check_told c
-    once next h Passed = refl
-    once next h (Refused r) = refl
+    once : (next : ℕ) (h : Head) (c : Check) → (head_row (head_once_checked next h c)).told ≡ answer_told c
+    once next h (Ok _) = refl
+    once next h (Err r) = refl
 
-head_cases : (s : List ℕ) → (head_row (with_body s (head_read s))).told ≡ check_told (check_of (header_cases s ++ (nested_cases s 8 product_tags 1 ++ after_language_cases s (language_at s 8 nothing))))
+head_cases : (s : List ℕ) → (head_row (with_body s (head_read s))).told ≡ answer_told (check_of (header_cases s ++ (nested_cases s 8 product_tags 1 ++ after_language_cases s (language_at s 8 nothing))))
 unfolding head_read
 head_cases s =
     head_told s (fields_check s) (language_at s 8 nothing)
-    ∙ ap check_told
+    ∙ ap answer_told
     (check_in_turn (header_cases s) (nested_cases s 8 product_tags 1 ++ after_language_cases s (language_at s 8 nothing)) (header_check s)
     (check_in_turn (nested_cases s 8 product_tags 1) (after_language_cases s (language_at s 8 nothing)) (sym (language_check_lem s)) refl))
 
-file_cases_lem : (s : List ℕ) → (head_row (file_read s)).told ≡ check_told (check_of (file_cases s))
+file_cases_lem : (s : List ℕ) → (head_row (file_read s)).told ≡ answer_told (check_of (file_cases s))
 unfolding file_read
 file_cases_lem s = go (count_right s)
   where
-    go : (b : Bool) → (head_row (cond b (with_body s (head_read s)) (Faulty (Bytes 0 0)))).told ≡ check_told (or_else (unless b (Bytes 0 0)) (check_of (header_cases s ++ (nested_cases s 8 product_tags 1 ++ after_language_cases s (language_at s 8 nothing)))))
+    go : (b : Bool) → (head_row (cond b (with_body s (head_read s)) (Faulty (Bytes 0 0)))).told ≡ answer_told (result_and (unless b (Bytes 0 0)) (check_of (header_cases s ++ (nested_cases s 8 product_tags 1 ++ after_language_cases s (language_at s 8 nothing)))))
     go true = head_cases s
     go false = refl
 
-pub read_check : (s arcs mapping : List ℕ) → (file_row s arcs mapping).told ≡ check_told (check_of (read_cases s arcs mapping))
+pub read_check : (s arcs mapping : List ℕ) → (file_row s arcs mapping).told ≡ answer_told (check_of (read_cases s arcs mapping))
 unfolding sized
 read_check s arcs mapping = go (ltb (length arcs) 1024) (ltb (length mapping) 2560) refl refl
   where
     go : (a b : Bool) → ltb (length arcs) 1024 ≡ a → ltb (length mapping) 2560 ≡ b
-        → (cond a (refused_row (Length 1 0)) (cond b (refused_row (Length 3 0)) (head_row (file_read s)))).told ≡ check_told (check_of (read_cases s arcs mapping))
+        → (cond a (refused_row (Length 1 0)) (cond b (refused_row (Length 3 0)) (head_row (file_read s)))).told ≡ answer_told (check_of (read_cases s arcs mapping))
     go true b p q = rw (lt-leb 1024 (length arcs) (ltb-true (length arcs) 1024 p))
     go false true p q = rw (le-leb 1024 (length arcs) (ltb-false (length arcs) 1024 p), lt-leb 2560 (length mapping) (ltb-true (length mapping) 2560 q))
     go false false p q = rw (le-leb 1024 (length arcs) (ltb-false (length arcs) 1024 p), le-leb 2560 (length mapping) (ltb-false (length mapping) 2560 q)) (file_cases_lem s)

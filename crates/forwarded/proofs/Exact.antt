@@ -6,10 +6,9 @@ use mathlib.Core.Bool.{Bool, true}
 use mathlib.Core.List.{List, [], ◌∷◌}
 use mathlib.Core.Logic.{◌↔◌}
 use Rattle.refusals.specs.declared.Refusal.TheVariants.{Size, Law, Equation}
-use Rattle.refusals.specs.declared.Check.TheVariants.{Passed, Refused}
 use Rattle.refusals.specs.declared.Told.{Told}
 use Rattle.refusals.specs.Told.{row}
-use Rattle.refusals.specs.Checks.{unless, check_told}
+use Rattle.refusals.specs.Checks.{unless, answer_told}
 use Rattle.refusals.specs.Cases.{Case, DueIn, NoneDue, ToldExactly, check_of, refusal_numbers, first_cases}
 use Rattle.refusals.proofs.OneToOne.{told_not_done}
 use Rattle.refusals.proofs.First.{goes_on}
@@ -32,6 +31,7 @@ use Rattle.table_guards.proofs.TableCases.{destinations_exact, law_c_exact, mapp
 use Rattle.forwarding.specs.Calls.{OnTables, on_tables, mode_meant, routes_on, forward_cases, forward_check}
 use Rattle.forwarding.proofs.Order.{WellGiven, well_given, twelve_last}
 use Rattle.forwarded.specs.Table.{EveryRouteBest}
+use Rattle.std.specs.Prelude.{Ok, Err}
 
 -- the first k of exact cases are exact
 firsts_exact : (k : ℕ) (cases : List Case) → Chain cases → Chain (first_cases k cases)
@@ -40,8 +40,8 @@ firsts_exact (suc k) [] e = tt
 firsts_exact (suc k) (c ∷ cases) e = (e.0, λ s. firsts_exact k cases (e.1 s))
 
 -- m 0 is told as a mode that does not fit
-pub no_destinations : (N : OnNetwork) (mode : ℕ) (r mapping f : List ℕ) → (nodes_case N.n).check ≡ Passed → check_told (forward_check (on_tables N 0 mode r mapping) f) ≡ row 3 3 0
-no_destinations N mode r mapping f e = ap check_told (goes_on {d = Refused (Size 3 0)} e refl)
+pub no_destinations : (N : OnNetwork) (mode : ℕ) (r mapping f : List ℕ) → (nodes_case N.n).check ≡ Ok tt → answer_told (forward_check (on_tables N 0 mode r mapping) f) ≡ row 3 3 0
+no_destinations N mode r mapping f e = ap answer_told (goes_on {d = Err (Size 3 0)} e refl)
 
 module _ (T : OnTables) (f : List ℕ) where
   open T use {network, m, routes, mapping}
@@ -51,7 +51,7 @@ module _ (T : OnTables) (f : List ℕ) where
   cs = components network
 
   abbrev answer : Told
-  answer = check_told (forward_check T f)
+  answer = answer_told (forward_check T f)
 
   forward_exact : AllExact (forward_cases T f)
   forward_exact =
@@ -88,10 +88,10 @@ module _ (T : OnTables) (f : List ℕ) where
       (λ e. let h = only.0 ((forward_told.refused (Equation 2 0)).0 e) in (h.0, there.0 h.1), λ (u, g). (forward_told.refused (Equation 2 0)).1 (only.1 (u, there.1 g)))
 
   -- Where R holds the best weights and nothing is due in the fifteen cases before 12, the call is done ..
-  pub best_done : EveryRouteBest network routes → NoneDue (first_cases 15 (forward_cases T f)) → forward_check T f ≡ Passed
+  pub best_done : EveryRouteBest network routes → NoneDue (first_cases 15 (forward_cases T f)) → forward_check T f ≡ Ok tt
   best_done b none = twelve_last T f ∙ goes_on passed (ap (λ (x : Bool). unless x (Equation 2 0)) solved)
     where
-      passed : check_of (first_cases 15 (forward_cases T f)) ≡ Passed
+      passed : check_of (first_cases 15 (forward_cases T f)) ≡ Ok tt
       passed = (passes_exactly (first_cases 15 (forward_cases T f)) (record { chain = firsts_exact 15 (forward_cases T f) forward_exact.chain })).1 none
 
       given : WellGiven T f
@@ -102,4 +102,4 @@ module _ (T : OnTables) (f : List ℕ) where
 
   -- .. and so 12 is never given.
   pub best_never_twelve : EveryRouteBest network routes → answer ≡ row 12 2 0 → ⊥
-  best_never_twelve b e = let g = equation_refused.0 e in told_not_done (Equation 2 0) (sym e ∙ ap check_told (best_done b g.0))
+  best_never_twelve b e = let g = equation_refused.0 e in told_not_done (Equation 2 0) (sym e ∙ ap answer_told (best_done b g.0))

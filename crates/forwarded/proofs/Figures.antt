@@ -7,7 +7,7 @@ use native.Mathlib.Omega.{arith}
 use borrow.Author.Tests.{lt-ltb, le-ltb, ne_eqb}
 use lib.ListN.{replicate}
 use Rattle.refusals.specs.Told.{row, done}
-use Rattle.refusals.specs.Checks.{check_told}
+use Rattle.refusals.specs.Checks.{answer_told}
 use Rattle.algebra.specs.Order.{pick, best_of}
 use Rattle.algebra.specs.Best.{best, best_among}
 use Rattle.algebra.specs.Step.{routed}
@@ -71,19 +71,19 @@ distance_in mode = on_tables (on_network distance_language 5 (matrix_words 5 dis
 
 -- in mode 3 the call on figure 6(b) and (c) is done, and leaves figure 6(d)
 pub band_call :
-    (check_told (forward_check (band_in 3) (replicate 40 0)) ≡ done)
+    (answer_told (forward_check (band_in 3) (replicate 40 0)) ≡ done)
     × (forward_left (band_in 3) (replicate 40 0) ≡ table_words 4 2 (tabled band_table))
 unfolding blocks words words_of first_malformed cell table_in every routed forwarded best_of pick
 band_call = (refl, refl)
 
 -- in mode 2 it is refused for law C, which width does not have
-pub band_hot : check_told (forward_check (band_in 2) (replicate 40 0)) ≡ row 10 3 0
+pub band_hot : answer_told (forward_check (band_in 2) (replicate 40 0)) ≡ row 10 3 0
 unfolding blocks words words_of first_malformed cell table_in every routed forwarded best_of pick
 band_hot = refl
 
 -- in mode 2 the call on figure 6(f) and (g) is done, and leaves figure 6(h)
 pub distance_call :
-    (check_told (forward_check (distance_in 2) (replicate 50 0)) ≡ done)
+    (answer_told (forward_check (distance_in 2) (replicate 50 0)) ≡ done)
     × (forward_left (distance_in 2) (replicate 50 0) ≡ table_words 5 2 (tabled distance_table))
 unfolding blocks words words_of first_malformed cell table_in every routed forwarded best_of pick
 distance_call = (refl, refl)

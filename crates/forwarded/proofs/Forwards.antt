@@ -7,7 +7,6 @@ use mathlib.Core.List.{List, [], ◌∷◌}
 use native.Mathlib.Omega.{arith}
 use lib.Dec.{ltb}
 use lib.ListN.{length}
-use Rattle.refusals.specs.declared.Check.TheVariants.{Passed}
 use Rattle.refusals.proofs.First.{if_passed_lem}
 use Rattle.algebra.specs.Path.{ValidMatrix}
 use Rattle.algebra.specs.Step.{Solves}
@@ -46,6 +45,7 @@ use Rattle.forwarding.specs.Calls.{OnTables, table_of, routes_on, mapping_on, mo
 use Rattle.forwarding.proofs.Order.{BuffersFormed, WellGiven, all_passed}
 use Rattle.forwarded.specs.Table.{left, EveryRouteBest, TableSays}
 use Rattle.forwarded.proofs.ReadBack.{entry_back, entry_sum}
+use Rattle.std.specs.Prelude.{Ok}
 
 -- ---- the places of a language
 
@@ -131,7 +131,7 @@ module _ (T : OnTables) (f : List ℕ) where
 
   -- ---- a done call
 
-  module _ (e : forward_check T f ≡ Passed) where
+  module _ (e : forward_check T f ≡ Ok tt) where
     ready : WellGiven T f
     ready = (all_passed T f e).0
 

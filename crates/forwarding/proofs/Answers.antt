@@ -3,10 +3,7 @@ use mathlib.Core.Path.{◌≡◌, sym, ap, ◌∙◌}
 use mathlib.Core.List.{List}
 use Prim.Native.Nat.{ℕ}
 use Rattle.refusals.specs.declared.Refusal.{Refusal}
-use Rattle.refusals.specs.declared.Check.{Check}
-use Rattle.refusals.specs.declared.Check.TheVariants.{Passed, Refused}
-use Rattle.refusals.specs.declared.Answer.TheVariants.{Done, Refused as NotDone}
-use Rattle.refusals.specs.Checks.{answer_told, check_told}
+use Rattle.refusals.specs.Checks.{answer_told, Check}
 use Rattle.refusals.proofs.First.{if_passed_lem, if_refused}
 use Rattle.algebra.specs.Modes.{forwarded}
 use Rattle.weights.specs.declared.Component.{Component}
@@ -25,6 +22,7 @@ use Rattle.guards.specs.Entrance.{Entered}
 use Rattle.forwarding.specs.Calls.{OnTables, mode_meant, routes_on, forward_check, forward_left, forwarding_sum}
 use Rattle.forwarding.specs.Ready.{contents_check}
 use Rattle.forwarding.proofs.Order.{Found, contents_then, routes_go, all_passed}
+use Rattle.std.specs.Prelude.{Ok, Err}
 
 module _ (T : OnTables) (f : List ℕ) where
   open T use {network, m, routes, mapping}
@@ -33,18 +31,18 @@ module _ (T : OnTables) (f : List ℕ) where
   abbrev cs : List Component
   cs = components network
 
-  pub forward_refused : (x : Refusal) → forward_check T f ≡ Refused x → (answer_told (NotDone x) ≡ check_told (forward_check T f)) × (f ≡ forward_left T f)
-  forward_refused x e = (ap check_told (sym e), sym (if_refused (table_words n m (forwarding_sum T)) f e))
+  pub forward_refused : (x : Refusal) → forward_check T f ≡ Err x → (answer_told (Err x) ≡ answer_told (forward_check T f)) × (f ≡ forward_left T f)
+  forward_refused x e = (ap answer_told (sym e), sym (if_refused (table_words n m (forwarding_sum T)) f e))
 
   module _ {sized measured : Check} (q : Found T f sized measured) (p : Places) (o : Entered network.language sized measured p) {mode : Mode} (meant : mode ≡ mode_meant T)
-      {contained : Check} (qc : contained ≡ contents_check mode (places_of p) n m arcs routes mapping) (e : contained ≡ Passed) where
+      {contained : Check} (qc : contained ≡ contents_check mode (places_of p) n m arcs routes mapping) (e : contained ≡ Ok tt) where
     abbrev table : Mode → List Component → List ℕ
     table k ds = table_words n m (forwarded (language ds) (mode_of k ds) n (matrix_in places n routes) (table_in places m mapping))
 
-    pub forward_done : (left : List ℕ) → left ≡ table mode (places_of p) → (answer_told Done ≡ check_told (forward_check T f)) × (left ≡ forward_left T f)
+    pub forward_done : (left : List ℕ) → left ≡ table mode (places_of p) → (answer_told (Ok tt) ≡ answer_told (forward_check T f)) × (left ≡ forward_left T f)
     forward_done left h =
         let passes = contents_then T f q p o meant qc e in (
-          ap check_told (sym passes),
+          ap answer_told (sym passes),
           h
               ∙ ap (λ (k : Mode). table k (places_of p)) meant
               ∙ ap (table (mode_meant T)) o.in_places.placed

@@ -6,11 +6,10 @@ use mathlib.Core.List.{List, [], ◌∷◌}
 use lib.ListN.{length}
 use Rattle.refusals.specs.declared.Refusal.{Refusal}
 use Rattle.refusals.specs.declared.Refusal.TheVariants.{Law, Equation}
-use Rattle.refusals.specs.declared.Check.{Check}
-use Rattle.refusals.specs.declared.Check.TheVariants.{Passed, Refused}
-use Rattle.refusals.specs.Checks.{unless, or_else, first_of}
+use Rattle.refusals.specs.Checks.{unless, first_of, Check}
+use Rattle.std.specs.Result.{result_and}
 use Rattle.refusals.specs.Cases.{Case, checks_of, check_of, first_cases}
-use Rattle.refusals.proofs.First.{unless_passes, both_pass, or_passed, stops, goes_on, or_else_cong, or_else_assoc, first_append, first_passes, pass_first}
+use Rattle.refusals.proofs.First.{unless_passes, both_pass, or_passed, stops, goes_on, result_and_cong, result_and_assoc, first_append, first_passes, pass_first}
 use Rattle.refusals.proofs.Cases.{check_append}
 use Rattle.algebra.proofs.Embedding.{GoesTo}
 use Rattle.weights.specs.declared.Component.{Component}
@@ -25,7 +24,6 @@ use Rattle.matrices.specs.Buffers.{matrix_in, Square, Formed}
 use Rattle.matrices.specs.Steps.{solves, Given}
 use Rattle.matrices.proofs.Malformed.{check_formed}
 use Rattle.modes.specs.declared.Mode.{Mode}
-use Rattle.modes.specs.declared.Chosen.{Chosen}
 use Rattle.modes.specs.Entries.{mode_for, needs_c}
 use Rattle.tables.specs.Tables.{Sized, FormedTable}
 use Rattle.tables.specs.Parts.{GivenTable}
@@ -43,6 +41,7 @@ use Rattle.routes.proofs.Order.{placed_sound, arcs_same, routes_same, two_checks
 use Rattle.routes.proofs.Bridge.{buffer_goes, solves_go}
 use Rattle.forwarding.specs.Calls.{OnTables, mode_meant, routes_on, forward_cases, forward_check}
 use Rattle.forwarding.specs.Ready.{Measured, contents_check}
+use Rattle.std.specs.Prelude.{Option, Ok, Err}
 
 -- what the code's test of the equation tells
 pub solves_told : (cs : List Component) (n : ℕ) (a r : List ℕ) (b : Bool) → b ≡ solves cs n (matrix_in (length cs) n a) (matrix_in (length cs) n r) → unless b (Equation 2 0) ≡ (solves_case cs n a r).check
@@ -62,10 +61,10 @@ module _ (mode : Mode) (cs : List Component) (n m : ℕ) (a r mapping : List ℕ
   firsts = law_c_check mode cs ∷ (arcs_case cs n a).check ∷ (routes_case cs n r).check ∷ (mapping_case mode cs n m mapping).check ∷ []
 
   -- .. and 12 after it
-  solves_last : contents_check mode cs n m a r mapping ≡ or_else (first_of firsts) (solves_case cs n a r).check
-  solves_last = first_append firsts ((solves_case cs n a r).check ∷ []) ∙ ap (or_else (first_of firsts)) (or_passed (solves_case cs n a r).check)
+  solves_last : contents_check mode cs n m a r mapping ≡ result_and (first_of firsts) (solves_case cs n a r).check
+  solves_last = first_append firsts ((solves_case cs n a r).check ∷ []) ∙ ap (result_and (first_of firsts)) (or_passed (solves_case cs n a r).check)
 
-  firsts_formed : Square n a → Square n r → Sized n m mapping → first_of firsts ≡ Passed → BuffersFormed mode cs n m a r mapping
+  firsts_formed : Square n a → Square n r → Sized n m mapping → first_of firsts ≡ Ok tt → BuffersFormed mode cs n m a r mapping
   firsts_formed qa qr qm e =
       let (ec, (ea, (er, (em, u)))) = first_passes firsts e in
       record { in_arcs = check_formed 1 arc_sum cs n a qa ea; in_routes = check_formed 2 matrix_sum cs n r qr er; in_mapping = entries.check_formed 3 mode arc_sum cs n m mapping qm em }
@@ -74,17 +73,17 @@ module _ (mode : Mode) (cs : List Component) (n m : ℕ) (a r mapping : List ℕ
 
   module _ (g : Measured cs n m a r mapping) {by_c by_arcs by_routes by_mapping by_tables by_entries found : Check}
       (q_c : by_c ≡ law_c_check mode cs) (qa : by_arcs ≡ (arcs_case cs n a).check) (qr : by_routes ≡ (routes_case cs n r).check) (qm : by_mapping ≡ (mapping_case mode cs n m mapping).check)
-      (qt : by_tables ≡ or_else by_routes by_mapping) (qe : by_entries ≡ or_else by_arcs by_tables) (q : found ≡ or_else by_c by_entries) where
+      (qt : by_tables ≡ result_and by_routes by_mapping) (qe : by_entries ≡ result_and by_arcs by_tables) (q : found ≡ result_and by_c by_entries) where
     found_firsts : found ≡ first_of firsts
-    found_firsts = q ∙ ap₂ or_else q_c (qe ∙ ap₂ or_else qa (qt ∙ two_checks (routes_case cs n r).check (mapping_case mode cs n m mapping).check qr qm))
+    found_firsts = q ∙ ap₂ result_and q_c (qe ∙ ap₂ result_and qa (qt ∙ two_checks (routes_case cs n r).check (mapping_case mode cs n m mapping).check qr qm))
 
-    pub firsts_refuse : {x : Refusal} → found ≡ Refused x → Refused x ≡ contents_check mode cs n m a r mapping
+    pub firsts_refuse : {x : Refusal} → found ≡ Err x → Err x ≡ contents_check mode cs n m a r mapping
     firsts_refuse e = sym (solves_last ∙ stops (solves_case cs n a r).check (sym found_firsts ∙ e))
 
-    pub equation_last : {c : Check} → found ≡ Passed → c ≡ (solves_case cs n a r).check → c ≡ contents_check mode cs n m a r mapping
+    pub equation_last : {c : Check} → found ≡ Ok tt → c ≡ (solves_case cs n a r).check → c ≡ contents_check mode cs n m a r mapping
     equation_last e s = sym (solves_last ∙ goes_on (sym found_firsts ∙ e) (sym s))
 
-    pub matrices_given : found ≡ Passed → Given cs n a r
+    pub matrices_given : found ≡ Ok tt → Given cs n a r
     matrices_given e =
         let w = firsts_formed g.in_arcs g.in_routes g.in_mapping (sym found_firsts ∙ e) in
         record { limits = g.limits; sound = g.sound; law_d_holds = g.law_d_holds; law_u_holds = g.law_u_holds; arcs = w.in_arcs; routes = w.in_routes }
@@ -108,25 +107,25 @@ module _ (T : OnTables) (f : List ℕ) where
   contents = law_c_case T.mode (mode_meant T) cs ∷ arcs_case cs n arcs ∷ routes_case cs n routes ∷ mapping_case (mode_meant T) cs n m mapping ∷ solves_case cs n arcs routes ∷ []
 
   -- there are at most 16 nodes and 32 destinations where the sizes pass
-  few_of_both : check_of sizes ≡ Passed → (n ≤ most_nodes) × (m ≤ most_destinations)
+  few_of_both : check_of sizes ≡ Ok tt → (n ≤ most_nodes) × (m ≤ most_destinations)
   few_of_both e = let (en, (ed, u)) = first_passes (checks_of sizes) e in ((nodes_passed n en).1, destinations_passed m ed)
 
   -- what the code's checks of the sizes and of the lengths give
   pub record Found (sized measured : Check) : Type 0 where
     pub as_sizes : sized ≡ check_of sizes
-    pub as_lengths : check_of sizes ≡ Passed → measured ≡ check_of lengths
+    pub as_lengths : check_of sizes ≡ Ok tt → measured ≡ check_of lengths
 
-  pub found : {chosen : Chosen} {by_n by_m by_mode others sized by_arcs by_routes by_mapping by_table matrices tables measured : Check}
-      → chosen ≡ mode_for cs m T.mode → by_n ≡ (nodes_case n).check → by_m ≡ (destinations_case m).check → by_mode ≡ chosen_check chosen → others ≡ or_else by_m by_mode → sized ≡ or_else by_n others
-      → by_arcs ≡ length_measured 1 n arcs → by_routes ≡ length_measured 2 n routes → matrices ≡ or_else by_arcs by_routes
-      → by_mapping ≡ table_length_measured 3 n m mapping → by_table ≡ table_length_measured 4 n m f → tables ≡ or_else by_mapping by_table
-      → measured ≡ or_else matrices tables → Found sized measured
+  pub found : {chosen : (Option Mode)} {by_n by_m by_mode others sized by_arcs by_routes by_mapping by_table matrices tables measured : Check}
+      → chosen ≡ mode_for cs m T.mode → by_n ≡ (nodes_case n).check → by_m ≡ (destinations_case m).check → by_mode ≡ chosen_check chosen → others ≡ result_and by_m by_mode → sized ≡ result_and by_n others
+      → by_arcs ≡ length_measured 1 n arcs → by_routes ≡ length_measured 2 n routes → matrices ≡ result_and by_arcs by_routes
+      → by_mapping ≡ table_length_measured 3 n m mapping → by_table ≡ table_length_measured 4 n m f → tables ≡ result_and by_mapping by_table
+      → measured ≡ result_and matrices tables → Found sized measured
   found qc qn qm qk qo qs la lr lab lm lt lmt ll = record {
-    as_sizes = qs ∙ ap₂ or_else qn (qo ∙ two_checks (destinations_case m).check (mode_case cs m T.mode).check qm (qk ∙ ap chosen_check qc));
+    as_sizes = qs ∙ ap₂ result_and qn (qo ∙ two_checks (destinations_case m).check (mode_case cs m T.mode).check qm (qk ∙ ap chosen_check qc));
     as_lengths = λ e.
         let h = few_of_both e in
-        ll ∙ ap₂ or_else (lab ∙ ap₂ or_else (singles.measured 1 n arcs h.0 la) (singles.measured 2 n routes h.0 lr)) (lmt ∙ two_checks (table_length_case 3 n m mapping).check (table_length_case 4 n m f).check (table_measured 3 n m mapping h lm) (table_measured 4 n m f h lt))
-        ∙ or_else_assoc (length_case 1 n arcs).check (length_case 2 n routes).check (check_of (table_length_case 3 n m mapping ∷ table_length_case 4 n m f ∷ []));
+        ll ∙ ap₂ result_and (lab ∙ ap₂ result_and (singles.measured 1 n arcs h.0 la) (singles.measured 2 n routes h.0 lr)) (lmt ∙ two_checks (table_length_case 3 n m mapping).check (table_length_case 4 n m f).check (table_measured 3 n m mapping h lm) (table_measured 4 n m f h lt))
+        ∙ result_and_assoc (length_case 1 n arcs).check (length_case 2 n routes).check (check_of (table_length_case 3 n m mapping ∷ table_length_case 4 n m f ∷ []));
   }
 
   -- what the buffers are once their lengths pass
@@ -136,13 +135,13 @@ module _ (T : OnTables) (f : List ℕ) where
     pub in_mapping : Sized n m mapping
     pub in_table : Sized n m f
 
-  long_enough : (n ≤ most_nodes) × (m ≤ most_destinations) → check_of lengths ≡ Passed → Long
+  long_enough : (n ≤ most_nodes) × (m ≤ most_destinations) → check_of lengths ≡ Ok tt → Long
   long_enough (h, k) e =
       let (ea, (er, (em, (et, u)))) = first_passes (checks_of lengths) e in
       record { in_arcs = length_passed 1 n arcs h ea; in_routes = length_passed 2 n routes h er; in_mapping = table_length_passed 3 n m mapping h k em; in_table = table_length_passed 4 n m f h k et }
 
   module _ {sized measured : Check} (q : Found sized measured) where
-    pub forward_stops : {x : Refusal} → entrance_check network.language sized measured ≡ Refused x → forward_check T f ≡ Refused x
+    pub forward_stops : {x : Refusal} → entrance_check network.language sized measured ≡ Err x → forward_check T f ≡ Err x
     forward_stops e = entrance_refuses network.language sizes lengths contents sized measured q.as_sizes q.as_lengths e
 
     module _ (p : Places) (o : Entered network.language sized measured p) where
@@ -177,8 +176,8 @@ module _ (T : OnTables) (f : List ℕ) where
         contents_same =
             let arcs_alike = arcs_same network.language p o.in_places n arcs long.in_arcs in
             let routes_alike = routes_same network.language p o.in_places n routes long.in_routes in
-            or_else_cong _ _ law_c_same (λ ec. or_else_cong _ _ arcs_alike (λ ea. or_else_cong _ _ routes_alike (λ er. or_else_cong _ _ mapping_same (λ em.
-            ap (λ (c : Check). or_else c Passed) (solves_same (check_formed 1 arc_sum (places_of p) n arcs long.in_arcs (arcs_alike ∙ ea)) (check_formed 2 matrix_sum (places_of p) n routes long.in_routes (routes_alike ∙ er)))))))
+            result_and_cong _ _ law_c_same (λ ec. result_and_cong _ _ arcs_alike (λ ea. result_and_cong _ _ routes_alike (λ er. result_and_cong _ _ mapping_same (λ em.
+            ap (λ (c : Check). result_and c (Ok tt)) (solves_same (check_formed 1 arc_sum (places_of p) n arcs long.in_arcs (arcs_alike ∙ ea)) (check_formed 2 matrix_sum (places_of p) n routes long.in_routes (routes_alike ∙ er)))))))
 
         module _ {contained : Check} (qc : contained ≡ contents_check mode (places_of p) n m arcs routes mapping) where
           pub contents_then : {c : Check} → contained ≡ c → forward_check T f ≡ c
@@ -186,7 +185,7 @@ module _ (T : OnTables) (f : List ℕ) where
               entrance_leaves network.language sizes lengths contents sized measured q.as_sizes q.as_lengths o
               (ap (λ (k : Mode). contents_check k cs n m arcs routes mapping) (sym meant) ∙ sym contents_same ∙ sym qc ∙ e)
 
-          module _ (e : contained ≡ Passed) where
+          module _ (e : contained ≡ Ok tt) where
             placed_formed : BuffersFormed mode (places_of p) n m arcs routes mapping
             placed_formed =
                 firsts_formed mode (places_of p) n m arcs routes mapping long.in_arcs long.in_routes long.in_mapping
@@ -209,7 +208,7 @@ module _ (T : OnTables) (f : List ℕ) where
     pub law_c_holds : needs_c (mode_meant T) ≡ true → test_c cs ≡ true
     pub formed : BuffersFormed (mode_meant T) cs n m arcs routes mapping
 
-  pub well_given : check_of (first_cases 15 (forward_cases T f)) ≡ Passed → WellGiven
+  pub well_given : check_of (first_cases 15 (forward_cases T f)) ≡ Ok tt → WellGiven
   well_given e =
       let (en, (ed, (em, (ec, (el, (la, (lr, (lm, (lf, (u_d, (u_u, (u_c, (wa, (wr, (wm, u))))))))))))))) = first_passes (checks_of (first_cases 15 (forward_cases T f))) e in
       let w = long_enough ((nodes_passed n en).1, destinations_passed m ed) (pass_first (checks_of lengths) (la, (lr, (lm, (lf, tt))))) in
@@ -222,12 +221,12 @@ module _ (T : OnTables) (f : List ℕ) where
       }
 
   -- 12 is the last check
-  pub twelve_last : forward_check T f ≡ or_else (check_of (first_cases 15 (forward_cases T f))) (solves_case cs n arcs routes).check
+  pub twelve_last : forward_check T f ≡ result_and (check_of (first_cases 15 (forward_cases T f))) (solves_case cs n arcs routes).check
   twelve_last =
       check_append (first_cases 15 (forward_cases T f)) (solves_case cs n arcs routes ∷ [])
-      ∙ ap (or_else (check_of (first_cases 15 (forward_cases T f)))) (or_passed (solves_case cs n arcs routes).check)
+      ∙ ap (result_and (check_of (first_cases 15 (forward_cases T f)))) (or_passed (solves_case cs n arcs routes).check)
 
-  pub all_passed : forward_check T f ≡ Passed → WellGiven × (solves cs n (arcs_on network) (routes_on T) ≡ true)
+  pub all_passed : forward_check T f ≡ Ok tt → WellGiven × (solves cs n (arcs_on network) (routes_on T) ≡ true)
   all_passed e =
       let h = both_pass (check_of (first_cases 15 (forward_cases T f))) (solves_case cs n arcs routes).check (sym twelve_last ∙ e) in
       (well_given h.0, unless_passes (solves cs n (arcs_on network) (routes_on T)) (Equation 2 0) h.1)

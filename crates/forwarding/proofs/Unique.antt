@@ -2,9 +2,9 @@
 use Prim.Native.Nat.{ℕ}
 use mathlib.Core.Path.{◌≡◌, sym, ◌∙◌}
 use mathlib.Core.List.{List}
-use Rattle.refusals.specs.declared.Answer.{Answer}
 use Rattle.refusals.proofs.OneToOne.{answer_one}
 use Rattle.forwarding.specs.Calls.{OnTables, Meets}
+use Rattle.refusals.specs.Checks.{Check}
 
-pub forward_answers_equal : (T : OnTables) (f : List ℕ) (x y : Answer) (left right : List ℕ) → Meets T f x left → Meets T f y right → (x ≡ y) × (left ≡ right)
+pub forward_answers_equal : (T : OnTables) (f : List ℕ) (x y : Check) (left right : List ℕ) → Meets T f x left → Meets T f y right → (x ≡ y) × (left ≡ right)
 forward_answers_equal T f x y left right p q = (answer_one x y (p.answer ∙ sym q.answer), p.buffer ∙ sym q.buffer)

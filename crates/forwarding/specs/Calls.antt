@@ -2,9 +2,7 @@
 -- holds then.
 -- To be believed: all of it.
 use Rattle.std.specs.Prelude.{ℕ, ◌≡◌, List, [], ◌∷◌, length}
-use Rattle.refusals.specs.declared.Check.{Check}
-use Rattle.refusals.specs.declared.Answer.{Answer}
-use Rattle.refusals.specs.Checks.{answer_told, check_told, if_passed}
+use Rattle.refusals.specs.Checks.{answer_told, if_passed, Check}
 use Rattle.refusals.specs.Cases.{Case, check_of}
 use Rattle.algebra.specs.Modes.{forwarded}
 use Rattle.weights.specs.declared.Component.{Component}
@@ -77,6 +75,6 @@ module _ (T : OnTables) where
   forward_left f = if_passed (forward_check f) (table_words n m forwarding_sum) f
 
   -- what the contract of forward says of an answer and of what the buffer holds then
-  pub record Meets (f : List ℕ) (x : Answer) (left : List ℕ) : Type 0 where
-    pub answer : answer_told x ≡ check_told (forward_check f)
+  pub record Meets (f : List ℕ) (x : Check) (left : List ℕ) : Type 0 where
+    pub answer : answer_told x ≡ answer_told (forward_check f)
     pub buffer : left ≡ forward_left f

@@ -1,7 +1,6 @@
 -- What the checks after the entrance say and rely on, on the way to Calls. They join the code to Calls; nothing here has to be believed.
 use Rattle.std.specs.Prelude.{ℕ, ◌≡◌, true, List, [], ◌∷◌}
-use Rattle.refusals.specs.declared.Check.{Check}
-use Rattle.refusals.specs.Checks.{first_of}
+use Rattle.refusals.specs.Checks.{first_of, Check}
 use Rattle.weights.specs.declared.Component.{Component}
 use Rattle.weights.specs.Weights.{Sound}
 use Rattle.weights.specs.Laws.{test_d, test_u}

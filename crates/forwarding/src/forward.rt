@@ -1,6 +1,6 @@
 // The call that writes the forwarding table.
 ghost use Rattle.std.specs.Prelude.{◌≡◌};
-ghost use Rattle.refusals.specs.Checks.{answer_told, check_told};
+ghost use Rattle.refusals.specs.Checks.{answer_told};
 ghost use Rattle.guards.specs.OnNetwork.{on_network};
 ghost use Rattle.forwarding.specs.Calls.{on_tables, forward_check, forward_left};
 
@@ -24,7 +24,7 @@ pub fn forward(
     mapping: &[u32],
     f: &mut [u32],
 ) -> Answer
-    ensures result_value { answer_told result ≡ check_told (forward_check (on_tables (on_network l n a.now) m mode r.now mapping.now) f.old) }
+    ensures result_value { answer_told result ≡ answer_told (forward_check (on_tables (on_network l n a.now) m mode r.now mapping.now) f.old) }
     ensures f_after { f.new ≡ forward_left (on_tables (on_network l n a.now) m mode r.now mapping.now) f.old }
 {
     let chosen = mode_for(l, m as usize, mode);

@@ -4,11 +4,10 @@ use mathlib.Core.Bool.{Bool, true}
 use mathlib.Core.List.{List, [], ◌∷◌, ◌++◌}
 use Rattle.refusals.specs.declared.Refusal.{Refusal}
 use Rattle.refusals.specs.declared.Refusal.TheVariants.{Law}
-use Rattle.refusals.specs.declared.Check.{Check}
-use Rattle.refusals.specs.declared.Check.TheVariants.{Passed, Refused}
-use Rattle.refusals.specs.Checks.{unless, or_else, first_of}
+use Rattle.refusals.specs.Checks.{unless, first_of, Check}
+use Rattle.std.specs.Result.{result_and}
 use Rattle.refusals.specs.Cases.{Case, check_of, NoneDue}
-use Rattle.refusals.proofs.First.{unless_passes, both_pass, stops, goes_on, or_else_cong, or_else_assoc}
+use Rattle.refusals.proofs.First.{unless_passes, both_pass, stops, goes_on, result_and_cong, result_and_assoc}
 use Rattle.refusals.proofs.Cases.{AllExact, check_append, in_turn, append_exact, ◌and◌, ◌then◌}
 use Rattle.weights.specs.declared.Component.{Component}
 use Rattle.weights.specs.declared.Language.{Language}
@@ -23,34 +22,35 @@ use Rattle.weights.proofs.Cases.{count_exact, limit_exact, limit_sound}
 use Rattle.guards.specs.Checks.{law_d_case, law_u_case, call_cases}
 use Rattle.guards.specs.Entrance.{laws_check, entrance_check, Entered}
 use Rattle.guards.proofs.Cases.{law_d_exact, law_u_exact}
+use Rattle.std.specs.Prelude.{Ok, Err}
 
 -- ---- the laws, in the places and in the language
 
 pub laws_same : (l : Language) (p : Places) → places_of p ≡ padded places (components_of l) → laws_check (places_of p) ≡ laws_check (components_of l)
 laws_same l p e = ap₂ (λ (x y : Bool). first_of (unless x (Law 1 0) ∷ unless y (Law 2 0) ∷ [])) (ap test_d e ∙ test_d_pad places (components_of l) (few l)) (ap test_u e ∙ test_u_pad places (components_of l) (few l))
 
-pub laws_passed : (cs : List Component) → laws_check cs ≡ Passed → (test_d cs ≡ true) × (test_u cs ≡ true)
+pub laws_passed : (cs : List Component) → laws_check cs ≡ Ok tt → (test_d cs ≡ true) × (test_u cs ≡ true)
 laws_passed cs e =
     let h = both_pass (law_d_case cs).check (first_of ((law_u_case cs).check ∷ [])) e in
-    (unless_passes (test_d cs) (Law 1 0) h.0, unless_passes (test_u cs) (Law 2 0) (both_pass (law_u_case cs).check Passed h.1).0)
+    (unless_passes (test_d cs) (Law 1 0) h.0, unless_passes (test_u cs) (Law 2 0) (both_pass (law_u_case cs).check (Ok tt) h.1).0)
 
 -- ---- what the code finds
 
 module _ (l : Language) (sizes lengths : Check) where
-  pub by_sizes : {x : Refusal} → sizes ≡ Refused x → entrance_check l sizes lengths ≡ Refused x
+  pub by_sizes : {x : Refusal} → sizes ≡ Err x → entrance_check l sizes lengths ≡ Err x
   by_sizes e = stops _ e
 
-  pub by_language : {x : Refusal} → sizes ≡ Passed → language_check l ≡ Refused x → entrance_check l sizes lengths ≡ Refused x
+  pub by_language : {x : Refusal} → sizes ≡ Ok tt → language_check l ≡ Err x → entrance_check l sizes lengths ≡ Err x
   by_language es e = goes_on es (stops _ e)
 
-  module _ (p : Places) (es : sizes ≡ Passed) (el : language_check l ≡ Passed) (placed : places_of p ≡ padded places (components_of l)) where
-    rest : {c : Check} → or_else lengths (laws_check (places_of p)) ≡ c → entrance_check l sizes lengths ≡ c
-    rest e = goes_on es (goes_on el (ap (or_else lengths) (sym (laws_same l p placed)) ∙ e))
+  module _ (p : Places) (es : sizes ≡ Ok tt) (el : language_check l ≡ Ok tt) (placed : places_of p ≡ padded places (components_of l)) where
+    rest : {c : Check} → result_and lengths (laws_check (places_of p)) ≡ c → entrance_check l sizes lengths ≡ c
+    rest e = goes_on es (goes_on el (ap (result_and lengths) (sym (laws_same l p placed)) ∙ e))
 
-    pub by_lengths_or_laws : {x : Refusal} → or_else lengths (laws_check (places_of p)) ≡ Refused x → entrance_check l sizes lengths ≡ Refused x
+    pub by_lengths_or_laws : {x : Refusal} → result_and lengths (laws_check (places_of p)) ≡ Err x → entrance_check l sizes lengths ≡ Err x
     by_lengths_or_laws e = rest e
 
-    pub entered : SmallLimits 65535 (places_of p) → or_else lengths (laws_check (places_of p)) ≡ Passed → Entered l sizes lengths p
+    pub entered : SmallLimits 65535 (places_of p) → result_and lengths (laws_check (places_of p)) ≡ Ok tt → Entered l sizes lengths p
     entered small e =
         let h = both_pass lengths (laws_check (places_of p)) e in
         let laws = laws_passed (places_of p) h.1 in
@@ -71,32 +71,32 @@ module _ (l : Language) (sizes lengths : Check) where
 
 module _ (l : Language) (sizes lengths rest : List Case) where
   -- the call's cases go through the entrance, and on with the rest
-  entrance_first : check_of (call_cases l sizes lengths rest) ≡ or_else (entrance_check l (check_of sizes) (check_of lengths)) (check_of rest)
+  entrance_first : check_of (call_cases l sizes lengths rest) ≡ result_and (entrance_check l (check_of sizes) (check_of lengths)) (check_of rest)
   entrance_first =
       check_append sizes (language_cases l ++ (lengths ++ law_d_case (components_of l) ∷ law_u_case (components_of l) ∷ rest))
-      ∙ ap (or_else (check_of sizes)) (check_append (language_cases l) (lengths ++ law_d_case (components_of l) ∷ law_u_case (components_of l) ∷ rest)
-      ∙ ap (or_else (language_check l)) (check_append lengths (law_d_case (components_of l) ∷ law_u_case (components_of l) ∷ rest)
-      ∙ ap (or_else (check_of lengths)) (check_append (law_d_case (components_of l) ∷ law_u_case (components_of l) ∷ []) rest) ∙ sym (or_else_assoc (check_of lengths) (laws_check (components_of l)) (check_of rest)))
-      ∙ sym (or_else_assoc (language_check l) (or_else (check_of lengths) (laws_check (components_of l))) (check_of rest)))
-      ∙ sym (or_else_assoc (check_of sizes) (or_else (language_check l) (or_else (check_of lengths) (laws_check (components_of l)))) (check_of rest))
+      ∙ ap (result_and (check_of sizes)) (check_append (language_cases l) (lengths ++ law_d_case (components_of l) ∷ law_u_case (components_of l) ∷ rest)
+      ∙ ap (result_and (language_check l)) (check_append lengths (law_d_case (components_of l) ∷ law_u_case (components_of l) ∷ rest)
+      ∙ ap (result_and (check_of lengths)) (check_append (law_d_case (components_of l) ∷ law_u_case (components_of l) ∷ []) rest) ∙ sym (result_and_assoc (check_of lengths) (laws_check (components_of l)) (check_of rest)))
+      ∙ sym (result_and_assoc (language_check l) (result_and (check_of lengths) (laws_check (components_of l))) (check_of rest)))
+      ∙ sym (result_and_assoc (check_of sizes) (result_and (language_check l) (result_and (check_of lengths) (laws_check (components_of l)))) (check_of rest))
 
   -- lengths are asked for only where the sizes pass
-  module _ (found measured : Check) (es : found ≡ check_of sizes) (el : check_of sizes ≡ Passed → measured ≡ check_of lengths) where
-    through : check_of (call_cases l sizes lengths rest) ≡ or_else (entrance_check l found measured) (check_of rest)
+  module _ (found measured : Check) (es : found ≡ check_of sizes) (el : check_of sizes ≡ Ok tt → measured ≡ check_of lengths) where
+    through : check_of (call_cases l sizes lengths rest) ≡ result_and (entrance_check l found measured) (check_of rest)
     through =
         entrance_first
-        ∙ ap (λ (c : Check). or_else c (check_of rest)) (sym (or_else_cong _ _ es (λ e. ap (λ (c : Check). or_else (language_check l) (or_else c (laws_check (components_of l)))) (el e))))
+        ∙ ap (λ (c : Check). result_and c (check_of rest)) (sym (result_and_cong _ _ es (λ e. ap (λ (c : Check). result_and (language_check l) (result_and c (laws_check (components_of l)))) (el e))))
 
-    pub entrance_refuses : {x : Refusal} → entrance_check l found measured ≡ Refused x → check_of (call_cases l sizes lengths rest) ≡ Refused x
+    pub entrance_refuses : {x : Refusal} → entrance_check l found measured ≡ Err x → check_of (call_cases l sizes lengths rest) ≡ Err x
     entrance_refuses e = through ∙ stops _ e
 
     pub entrance_leaves : {c : Check} {p : Places} → Entered l found measured p → check_of rest ≡ c → check_of (call_cases l sizes lengths rest) ≡ c
     entrance_leaves o e = through ∙ goes_on o.passes e
 
-    pub sizes_passed : {p : Places} → Entered l found measured p → check_of sizes ≡ Passed
+    pub sizes_passed : {p : Places} → Entered l found measured p → check_of sizes ≡ Ok tt
     sizes_passed o = sym es ∙ o.sizes_pass
 
-    pub lengths_passed : {p : Places} → Entered l found measured p → check_of lengths ≡ Passed
+    pub lengths_passed : {p : Places} → Entered l found measured p → check_of lengths ≡ Ok tt
     lengths_passed o = sym (el (sizes_passed o)) ∙ o.lengths_pass
 
 -- ---- exactness

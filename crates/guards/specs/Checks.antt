@@ -3,7 +3,6 @@
 -- To be believed: all of it.
 use Rattle.std.specs.Prelude.{ℕ, ◌+◌, ◌-◌, ◌*◌, ◌≤◌, ◌<◌, ◌≡◌, ◌⊎◌, Bool, ◌&&◌, ◌||◌, List, ◌∷◌, ◌++◌, leb, ltb, eqb, length}
 use Rattle.refusals.specs.declared.Refusal.TheVariants.{Size, NoSuch, Length, Law, TooMany}
-use Rattle.refusals.specs.declared.Check.{Check}
 use Rattle.refusals.specs.Cases.{Case, due_unless, first_from, due_at_first}
 use Rattle.weights.specs.declared.Component.{Component}
 use Rattle.weights.specs.declared.Language.{Language}
@@ -11,6 +10,7 @@ use Rattle.weights.specs.Sizes.{weight_words, arc_sum, matrix_sum}
 use Rattle.weights.specs.Laws.{LawD, LawU, test_d, test_u}
 use Rattle.weights.specs.Languages.{components_of, language_cases}
 use Rattle.matrices.specs.Buffers.{entries_case}
+use Rattle.refusals.specs.Checks.{Check}
 
 -- the most nodes of a network
 abbrev pub most_nodes : ℕ

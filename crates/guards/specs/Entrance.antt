@@ -1,9 +1,7 @@
 -- What the entrance of a call gives: the places of a lawful language, or the first of 3, 5, 4, 9, 10.
 -- It joins the code to the calls' cases; nothing here has to be believed.
-use Rattle.std.specs.Prelude.{◌≡◌, true, cond, List, [], ◌∷◌, ℕ, leb}
-use Rattle.refusals.specs.declared.Check.{Check}
-use Rattle.refusals.specs.declared.Check.TheVariants.{Passed, Refused}
-use Rattle.refusals.specs.Checks.{or_else}
+use Rattle.std.specs.Prelude.{◌≡◌, true, cond, List, [], ◌∷◌, ℕ, leb, Result, Ok, Err}
+use Rattle.std.specs.Result.{result_and}
 use Rattle.weights.specs.declared.Component.{Component}
 use Rattle.weights.specs.declared.Language.{Language}
 use Rattle.weights.specs.declared.Places.{Places}
@@ -11,14 +9,14 @@ use Rattle.weights.specs.Sizes.{places}
 use Rattle.weights.specs.Weights.{Sound}
 use Rattle.weights.specs.Laws.{test_d, test_u}
 use Rattle.weights.specs.Languages.{components_of, language_check, padded, places_of, SmallLimits}
-use Rattle.guards.specs.declared.Ready.{Ready}
-use Rattle.guards.specs.declared.Ready.TheVariants.{Given, Refused as call_refused}
 use Rattle.guards.specs.Checks.{law_d_case, law_u_case, most_nodes, length_case}
 use Rattle.refusals.specs.Cases.{check_of}
+use Rattle.refusals.specs.Checks.{Check}
+use Rattle.refusals.specs.declared.Refusal.{Refusal}
 
 -- 9 on a matrix, where n is at most 16; else passed, since 3 is told
 abbrev pub length_measured : ℕ → ℕ → List ℕ → Check
-length_measured which n s = cond (leb n most_nodes) (length_case which n s).check Passed
+length_measured which n s = cond (leb n most_nodes) (length_case which n s).check (Ok tt)
 
 -- 10: D, then U
 abbrev pub laws_check : List Component → Check
@@ -26,7 +24,7 @@ laws_check cs = check_of (law_d_case cs ∷ law_u_case cs ∷ [])
 
 -- 3, 5, 4, 9, 10, by what the call's own sizes and lengths give
 abbrev pub entrance_check : Language → Check → Check → Check
-entrance_check l sizes lengths = or_else sizes (or_else (language_check l) (or_else lengths (laws_check (components_of l))))
+entrance_check l sizes lengths = result_and sizes (result_and (language_check l) (result_and lengths (laws_check (components_of l))))
 
 -- the places hold the language, sound and lawful
 pub record Placed (l : Language) (p : Places) : Type 0 where
@@ -38,12 +36,12 @@ pub record Placed (l : Language) (p : Places) : Type 0 where
 
 -- every check has passed
 pub record Entered (l : Language) (sizes lengths : Check) (p : Places) : Type 0 where
-  pub sizes_pass : sizes ≡ Passed
-  pub lengths_pass : lengths ≡ Passed
-  pub passes : entrance_check l sizes lengths ≡ Passed
+  pub sizes_pass : sizes ≡ Ok tt
+  pub lengths_pass : lengths ≡ Ok tt
+  pub passes : entrance_check l sizes lengths ≡ Ok tt
   pub in_places : Placed l p
 
 -- what the entrance gives
-abbrev pub Enters : Language → Check → Check → Ready → Type 0
-Enters l sizes lengths (Given p) = Entered l sizes lengths p
-Enters l sizes lengths (call_refused x) = entrance_check l sizes lengths ≡ Refused x
+abbrev pub Enters : Language → Check → Check → Result Places Refusal → Type 0
+Enters l sizes lengths (Ok p) = Entered l sizes lengths p
+Enters l sizes lengths (Err x) = entrance_check l sizes lengths ≡ Err x

@@ -5,11 +5,8 @@ use mathlib.Core.Bool.{Bool, true, false, cond}
 use mathlib.Core.List.{List, []}
 use native.Mathlib.Omega.{arith}
 use Rattle.refusals.specs.declared.Refusal.{Refusal}
-use Rattle.refusals.specs.declared.Check.{Check}
-use Rattle.refusals.specs.declared.Check.TheVariants.{Passed, Refused}
-use Rattle.refusals.specs.declared.Answer.TheVariants.{Done, Refused as NotDone}
 use Rattle.refusals.specs.Told.{told}
-use Rattle.refusals.specs.Checks.{answer_told, check_told, if_passed}
+use Rattle.refusals.specs.Checks.{answer_told, if_passed, Check}
 use Rattle.refusals.proofs.First.{first_passes}
 use Rattle.refusals.proofs.OneToOne.{told_one, told_not_done}
 use Rattle.algebra.specs.Best.{best}
@@ -30,10 +27,11 @@ use Rattle.handover.specs.Parts.{HandoverChecked}
 use Rattle.refusals.specs.Cases.{checks_of}
 use Rattle.guards.specs.OnNetwork.{OnNetwork, components, arcs_on}
 use Rattle.routes.proofs.Order.{placed_sound}
+use Rattle.std.specs.Prelude.{Ok, Err}
 
 -- the row by what the checks and the test give
 abbrev pub lender_row_by : Check → Bool → LenderRow
-lender_row_by c is_new = record { told = check_told c; buffer = if_passed c (cond is_new 2 5) 0 }
+lender_row_by c is_new = record { told = answer_told c; buffer = if_passed c (cond is_new 2 5) 0 }
 
 module _ (N : OnNetwork) (standing newer : List ℕ) (i : ℕ) where
   open N use {n, arcs}
@@ -46,7 +44,7 @@ module _ (N : OnNetwork) (standing newer : List ℕ) (i : ℕ) where
 
   -- ---- the lender
 
-  pub lender_refused : (x : Refusal) → check ≡ Refused x → lender_said (LenderRefused x) ≡ lender_row N standing newer i
+  pub lender_refused : (x : Refusal) → check ≡ Err x → lender_said (LenderRefused x) ≡ lender_row N standing newer i
   lender_refused x e = ap (λ (c : Check). lender_row_by c is_new) (sym e)
 
   module _ (p : Places) (k : HandoverChecked N standing newer i p) {b : Bool} (q : b ≡ same_values newer (matrix_words n (best (language (places_of p)) n (matrix_in places n arcs)))) where
@@ -59,39 +57,39 @@ module _ (N : OnNetwork) (standing newer : List ℕ) (i : ℕ) where
         (best_goes (language (components N)) (language (places_of p)) (Valid (components N)) (pad_weight places) (embedded (components N) p (few N.language) o.placed s n arcs) n (arcs_on N) (matrix_in places n arcs)
         (buffer_goes (components N) p (few N.language) o.placed s n arcs arc_sum arcs k.arcs.arcs)))
 
-    told_by : lender_row_by Passed b ≡ lender_row N standing newer i
-    told_by = ap (lender_row_by Passed) (q ∙ ap (same_values newer) best_same) ∙ ap (λ (c : Check). lender_row_by c is_new) (sym k.passes)
+    told_by : lender_row_by (Ok tt) b ≡ lender_row N standing newer i
+    told_by = ap (lender_row_by (Ok tt)) (q ∙ ap (same_values newer) best_same) ∙ ap (λ (c : Check). lender_row_by c is_new) (sym k.passes)
 
     pub lender_newer : b ≡ true → lender_said Newer ≡ lender_row N standing newer i
-    lender_newer t = ap (lender_row_by Passed) (sym t) ∙ told_by
+    lender_newer t = ap (lender_row_by (Ok tt)) (sym t) ∙ told_by
 
     pub lender_standing : b ≡ false → lender_said Standing ≡ lender_row N standing newer i
-    lender_standing t = ap (lender_row_by Passed) (sym t) ∙ told_by
+    lender_standing t = ap (lender_row_by (Ok tt)) (sym t) ∙ told_by
 
   -- ---- what the lender's answer says
 
-  pub newer_says : lender_said Newer ≡ lender_row N standing newer i → (check ≡ Passed) × (is_new ≡ true)
+  pub newer_says : lender_said Newer ≡ lender_row N standing newer i → (check ≡ Ok tt) × (is_new ≡ true)
   newer_says e = go check is_new refl refl e
     where
-      go : (c : Check) (b : Bool) → check ≡ c → is_new ≡ b → lender_said Newer ≡ lender_row_by c b → (check ≡ Passed) × (is_new ≡ true)
-      go Passed true p q h = (p, q)
-      go Passed false p q h = absurd (let z : ◌≡◌ {A = ℕ} 2 5 = ap (λ (w : LenderRow). w.buffer) h in omega arith)
-      go (Refused x) b p q h = absurd (told_not_done x (sym (ap (λ (w : LenderRow). w.told) h)))
+      go : (c : Check) (b : Bool) → check ≡ c → is_new ≡ b → lender_said Newer ≡ lender_row_by c b → (check ≡ Ok tt) × (is_new ≡ true)
+      go (Ok _) true p q h = (p, q)
+      go (Ok _) false p q h = absurd (let z : ◌≡◌ {A = ℕ} 2 5 = ap (λ (w : LenderRow). w.buffer) h in omega arith)
+      go (Err x) b p q h = absurd (told_not_done x (sym (ap (λ (w : LenderRow). w.told) h)))
 
-  pub standing_says : lender_said Standing ≡ lender_row N standing newer i → (check ≡ Passed) × (is_new ≡ false)
+  pub standing_says : lender_said Standing ≡ lender_row N standing newer i → (check ≡ Ok tt) × (is_new ≡ false)
   standing_says e = go check is_new refl refl e
     where
-      go : (c : Check) (b : Bool) → check ≡ c → is_new ≡ b → lender_said Standing ≡ lender_row_by c b → (check ≡ Passed) × (is_new ≡ false)
-      go Passed true p q h = absurd (let z : ◌≡◌ {A = ℕ} 5 2 = ap (λ (w : LenderRow). w.buffer) h in omega arith)
-      go Passed false p q h = (p, q)
-      go (Refused x) b p q h = absurd (told_not_done x (sym (ap (λ (w : LenderRow). w.told) h)))
+      go : (c : Check) (b : Bool) → check ≡ c → is_new ≡ b → lender_said Standing ≡ lender_row_by c b → (check ≡ Ok tt) × (is_new ≡ false)
+      go (Ok _) true p q h = absurd (let z : ◌≡◌ {A = ℕ} 5 2 = ap (λ (w : LenderRow). w.buffer) h in omega arith)
+      go (Ok _) false p q h = (p, q)
+      go (Err x) b p q h = absurd (told_not_done x (sym (ap (λ (w : LenderRow). w.told) h)))
 
-  pub refused_says : (x : Refusal) → lender_said (LenderRefused x) ≡ lender_row N standing newer i → check ≡ Refused x
+  pub refused_says : (x : Refusal) → lender_said (LenderRefused x) ≡ lender_row N standing newer i → check ≡ Err x
   refused_says x e = go check refl (ap (λ (w : LenderRow). w.told) e)
     where
-      go : (c : Check) → check ≡ c → told x ≡ (lender_row_by c is_new).told → check ≡ Refused x
-      go Passed p h = absurd (told_not_done x h)
-      go (Refused y) p h = p ∙ ap Refused (told_one y x (sym h))
+      go : (c : Check) → check ≡ c → told x ≡ (lender_row_by c is_new).told → check ≡ Err x
+      go (Ok _) p h = absurd (told_not_done x h)
+      go (Err y) p h = p ∙ ap Err (told_one y x (sym h))
 
   -- ---- the row
 
@@ -102,7 +100,7 @@ module _ (N : OnNetwork) (standing newer : List ℕ) (i : ℕ) where
     pub standing_square : Square n standing
     pub node : i < n
 
-  pub sized : check ≡ Passed → BuffersSized
+  pub sized : check ≡ Ok tt → BuffersSized
   sized e =
       let h = first_passes (checks_of (handover_cases N standing newer i)) e in
       let few = (nodes_passed n h.0).1 in
@@ -136,11 +134,11 @@ module _ (N : OnNetwork) (standing newer : List ℕ) (i : ℕ) where
 
   -- ---- the refusal
 
-  pub told_newer : lender_said Newer ≡ lender_row N standing newer i → answer_told Done ≡ check_told check
-  told_newer e = ap check_told (sym (newer_says e).0)
+  pub told_newer : lender_said Newer ≡ lender_row N standing newer i → answer_told (Ok tt) ≡ answer_told check
+  told_newer e = ap answer_told (sym (newer_says e).0)
 
-  pub told_standing : lender_said Standing ≡ lender_row N standing newer i → answer_told Done ≡ check_told check
-  told_standing e = ap check_told (sym (standing_says e).0)
+  pub told_standing : lender_said Standing ≡ lender_row N standing newer i → answer_told (Ok tt) ≡ answer_told check
+  told_standing e = ap answer_told (sym (standing_says e).0)
 
-  pub told_refused : (x : Refusal) → lender_said (LenderRefused x) ≡ lender_row N standing newer i → answer_told (NotDone x) ≡ check_told check
-  told_refused x e = ap check_told (sym (refused_says x e))
+  pub told_refused : (x : Refusal) → lender_said (LenderRefused x) ≡ lender_row N standing newer i → answer_told (Err x) ≡ answer_told check
+  told_refused x e = ap answer_told (sym (refused_says x e))

@@ -3,9 +3,7 @@ use Prim.Native.Nat.{ℕ, ◌≤◌}
 use mathlib.Core.Path.{◌≡◌, sym, ap₂, ◌∙◌}
 use mathlib.Core.List.{List, [], ◌∷◌}
 use Rattle.refusals.specs.declared.Refusal.{Refusal}
-use Rattle.refusals.specs.declared.Check.{Check}
-use Rattle.refusals.specs.declared.Check.TheVariants.{Passed, Refused}
-use Rattle.refusals.specs.Checks.{or_else}
+use Rattle.std.specs.Result.{result_and}
 use Rattle.refusals.specs.Cases.{Case, check_of}
 use Rattle.refusals.proofs.First.{both_pass}
 use Rattle.weights.specs.declared.Places.{Places}
@@ -22,10 +20,12 @@ use Rattle.guards.proofs.Entering.{entrance_refuses, entrance_leaves, sizes_pass
 use Rattle.routes.proofs.Order.{nodes_only, nodes_found, two_checks, arcs_same}
 use Rattle.handover.specs.Calls.{handover_check}
 use Rattle.handover.specs.Parts.{HandoverChecked}
+use Rattle.refusals.specs.Checks.{Check}
+use Rattle.std.specs.Prelude.{Ok, Err}
 
 module _ (N : OnNetwork) (standing newer : List ℕ) (i : ℕ) {found in_arcs in_newer in_standing matrices measured : Check} (en : found ≡ (nodes_case N.n).check)
-    (ew : in_newer ≡ length_measured 2 N.n newer) (es : in_standing ≡ length_measured 5 N.n standing) (eb : matrices ≡ or_else in_newer in_standing)
-    (ea : in_arcs ≡ length_measured 1 N.n N.arcs) (em : measured ≡ or_else in_arcs matrices) where
+    (ew : in_newer ≡ length_measured 2 N.n newer) (es : in_standing ≡ length_measured 5 N.n standing) (eb : matrices ≡ result_and in_newer in_standing)
+    (ea : in_arcs ≡ length_measured 1 N.n N.arcs) (em : measured ≡ result_and in_arcs matrices) where
   open N use {n, arcs}
 
   abbrev sizes : List Case
@@ -37,12 +37,12 @@ module _ (N : OnNetwork) (standing newer : List ℕ) (i : ℕ) {found in_arcs in
   abbrev own : List Case
   own = arcs_case (components N) n arcs ∷ node_case 0 n i ∷ []
 
-  all_long : check_of sizes ≡ Passed → measured ≡ check_of lengths
+  all_long : check_of sizes ≡ Ok tt → measured ≡ check_of lengths
   all_long e =
       let few = (nodes_found n e).1 in
-      em ∙ ap₂ or_else (singles.measured 1 n arcs few ea) (eb ∙ two_checks (length_case 2 n newer).check (length_case 5 n standing).check (singles.measured 2 n newer few ew) (singles.measured 5 n standing few es))
+      em ∙ ap₂ result_and (singles.measured 1 n arcs few ea) (eb ∙ two_checks (length_case 2 n newer).check (length_case 5 n standing).check (singles.measured 2 n newer few ew) (singles.measured 5 n standing few es))
 
-  pub handover_stops : {x : Refusal} → entrance_check N.language found measured ≡ Refused x → handover_check N standing newer i ≡ Refused x
+  pub handover_stops : {x : Refusal} → entrance_check N.language found measured ≡ Err x → handover_check N standing newer i ≡ Err x
   handover_stops e = entrance_refuses N.language sizes lengths own found measured (nodes_only n en) all_long e
 
   module _ (p : Places) (o : Entered N.language found measured p) where
@@ -53,15 +53,15 @@ module _ (N : OnNetwork) (standing newer : List ℕ) (i : ℕ) {found in_arcs in
     squares =
         let h = both_pass (length_case 1 n arcs).check _ (lengths_passed N.language sizes lengths own found measured (nodes_only n en) all_long o) in
         let k = both_pass (length_case 2 n newer).check _ h.1 in
-        (length_passed 1 n arcs few h.0, length_passed 2 n newer few k.0, length_passed 5 n standing few (both_pass (length_case 5 n standing).check Passed k.1).0)
+        (length_passed 1 n arcs few h.0, length_passed 2 n newer few k.0, length_passed 5 n standing few (both_pass (length_case 5 n standing).check (Ok tt) k.1).0)
 
-    module _ {well there last : Check} (qa : well ≡ (arcs_case (places_of p) n arcs).check) (qi : there ≡ (node_case 0 n i).check) (q : last ≡ or_else well there) where
+    module _ {well there last : Check} (qa : well ≡ (arcs_case (places_of p) n arcs).check) (qi : there ≡ (node_case 0 n i).check) (q : last ≡ result_and well there) where
       pub own_then : {c : Check} → last ≡ c → handover_check N standing newer i ≡ c
       own_then e =
           entrance_leaves N.language sizes lengths own found measured (nodes_only n en) all_long o
           (sym (two_checks (arcs_case (components N) n arcs).check (node_case 0 n i).check (qa ∙ arcs_same N.language p o.in_places n arcs squares.0) qi) ∙ sym q ∙ e)
 
-      pub handover_given : last ≡ Passed → HandoverChecked N standing newer i p
+      pub handover_given : last ≡ Ok tt → HandoverChecked N standing newer i p
       handover_given e =
           let h = both_pass well there (sym q ∙ e) in
           let s = o.in_places in

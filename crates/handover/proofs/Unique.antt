@@ -3,16 +3,17 @@ use Prim.Native.Nat.{ℕ}
 use mathlib.Core.Path.{◌≡◌, refl, sym, ap, ◌∙◌}
 use mathlib.Core.List.{List}
 use native.Mathlib.Omega.{arith}
-use Rattle.refusals.specs.declared.Answer.{Answer}
-use Rattle.refusals.specs.Checks.{answer_told, check_told}
+use Rattle.refusals.specs.Checks.{answer_told, Check}
 use Rattle.refusals.proofs.OneToOne.{told_one, told_not_done, answer_one}
-use Rattle.guards.specs.declared.Ready.{Ready}
 use Rattle.handover.specs.declared.LenderAnswer.{LenderAnswer}
 use Rattle.handover.specs.declared.LenderAnswer.TheVariants.{Newer, Standing, Refused as LenderRefused}
 use Rattle.handover.specs.Calls.{handover_check, LenderRow, lender_row, lender_said, lent_row, lent_start}
 use Rattle.handover.specs.Parts.{HandoverReady}
 use Rattle.guards.specs.OnNetwork.{OnNetwork}
 use Rattle.guards.proofs.Unique.{one_ready}
+use Rattle.std.specs.Prelude.{Result}
+use Rattle.weights.specs.declared.Places.{Places}
+use Rattle.refusals.specs.declared.Refusal.{Refusal}
 
 lender_one : (x y : LenderAnswer) → lender_said x ≡ lender_said y → x ≡ y
 lender_one Newer Newer e = refl
@@ -29,7 +30,7 @@ module _ (N : OnNetwork) (standing newer : List ℕ) (i : ℕ) where
   pub lender_answers_equal : (x y : LenderAnswer) → lender_said x ≡ lender_row N standing newer i → lender_said y ≡ lender_row N standing newer i → x ≡ y
   lender_answers_equal x y p q = lender_one x y (p ∙ sym q)
 
-  pub refusal_answers_equal : (x y : Answer) → answer_told x ≡ check_told (handover_check N standing newer i) → answer_told y ≡ check_told (handover_check N standing newer i) → x ≡ y
+  pub refusal_answers_equal : (x y : Check) → answer_told x ≡ answer_told (handover_check N standing newer i) → answer_told y ≡ answer_told (handover_check N standing newer i) → x ≡ y
   refusal_answers_equal x y p q = answer_one x y (p ∙ sym q)
 
   -- two parts that are lent have the same words and stand at the same place
@@ -37,5 +38,5 @@ module _ (N : OnNetwork) (standing newer : List ℕ) (i : ℕ) where
       → (ys ≡ lent_row N standing newer i) × (y ≡ lent_start N standing newer i v w) → (xs ≡ ys) × (x ≡ y)
   lent_parts_equal v w xs ys x y p q = (p.0 ∙ sym q.0, p.1 ∙ sym q.1)
 
-  pub handover_ready_one : (x y : Ready) → HandoverReady N standing newer i x → HandoverReady N standing newer i y → x ≡ y
+  pub handover_ready_one : (x y : (Result Places Refusal)) → HandoverReady N standing newer i x → HandoverReady N standing newer i y → x ≡ y
   handover_ready_one = one_ready N.language (handover_check N standing newer i) (HandoverReady N standing newer i) (λ p k. (k.passes, k.in_places)) (λ x e. e)

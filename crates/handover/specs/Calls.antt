@@ -2,7 +2,6 @@
 -- To be believed: all of it. That `is_best` holds exactly where every entry is the best, and none malformed, is `test_exactly`
 -- (handovers/proofs/Tested).
 use Rattle.std.specs.Prelude.{ℕ, ◌+◌, ◌*◌, Bool, cond, List, [], ◌∷◌, take, drop}
-use Rattle.refusals.specs.declared.Check.{Check}
 use Rattle.refusals.specs.declared.Told.{Told}
 use Rattle.refusals.specs.Told.{told, done}
 use Rattle.algebra.specs.Best.{best}
@@ -14,7 +13,7 @@ use Rattle.handover.specs.declared.LenderAnswer.{LenderAnswer}
 use Rattle.handover.specs.declared.LenderAnswer.TheVariants.{Newer, Standing, Refused as LenderRefused}
 use Rattle.refusals.specs.Cases.{Case, check_of}
 use Rattle.guards.specs.Checks.{arcs_case, length_case, node_case, nodes_case, call_cases}
-use Rattle.refusals.specs.Checks.{check_told, if_passed}
+use Rattle.refusals.specs.Checks.{answer_told, if_passed, Check}
 use Rattle.guards.specs.OnNetwork.{components, arcs_on, OnNetwork}
 
 -- ---- the checks
@@ -47,7 +46,7 @@ pub record LenderRow : Type 0 where
 -- the row that the call answers: its first refusal, else buffer 2 where every entry of the new matrix is the best, else the standing 5
 abbrev pub lender_row : OnNetwork → List ℕ → List ℕ → ℕ → LenderRow
 lender_row N standing newer i = record {
-  told = check_told (handover_check N standing newer i);
+  told = answer_told (handover_check N standing newer i);
   buffer = if_passed (handover_check N standing newer i) (cond (is_best N newer) 2 5) 0;
 }
 

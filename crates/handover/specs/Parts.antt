@@ -1,19 +1,17 @@
 -- What is known once the checks of a handover have passed. It joins the code to Calls; nothing here has to be believed.
-use Rattle.std.specs.Prelude.{ℕ, ◌<◌, ◌≡◌, List}
-use Rattle.refusals.specs.declared.Check.TheVariants.{Passed, Refused}
+use Rattle.std.specs.Prelude.{ℕ, ◌<◌, ◌≡◌, List, Result, Ok, Err}
 use Rattle.weights.specs.declared.Places.{Places}
 use Rattle.weights.specs.Languages.{places_of}
 use Rattle.matrices.specs.Buffers.{Square}
 use Rattle.matrices.specs.Steps.{GivenArcs}
-use Rattle.guards.specs.declared.Ready.{Ready}
-use Rattle.guards.specs.declared.Ready.TheVariants.{Given as places_given, Refused as call_refused}
 use Rattle.handover.specs.Calls.{handover_check}
 use Rattle.guards.specs.OnNetwork.{OnNetwork}
 use Rattle.guards.specs.Entrance.{Placed}
+use Rattle.refusals.specs.declared.Refusal.{Refusal}
 
 -- what is known once every check has passed
 pub record HandoverChecked (N : OnNetwork) (standing newer : List ℕ) (i : ℕ) (p : Places) : Type 0 where
-  pub passes : handover_check N standing newer i ≡ Passed
+  pub passes : handover_check N standing newer i ≡ Ok tt
   pub in_places : Placed N.language p
   pub arcs : GivenArcs (places_of p) N.n N.arcs
   pub new_square : Square N.n newer
@@ -21,6 +19,6 @@ pub record HandoverChecked (N : OnNetwork) (standing newer : List ℕ) (i : ℕ)
   pub node : i < N.n
 
 -- what the checks of a handover give: the places, and what is known then, or the first refusal
-abbrev pub HandoverReady : OnNetwork → List ℕ → List ℕ → ℕ → Ready → Type 0
-HandoverReady N standing newer i (places_given p) = HandoverChecked N standing newer i p
-HandoverReady N standing newer i (call_refused x) = handover_check N standing newer i ≡ Refused x
+abbrev pub HandoverReady : OnNetwork → List ℕ → List ℕ → ℕ → Result Places Refusal → Type 0
+HandoverReady N standing newer i (Ok p) = HandoverChecked N standing newer i p
+HandoverReady N standing newer i (Err x) = handover_check N standing newer i ≡ Err x

@@ -1,6 +1,6 @@
 // The calls of a handover: which matrix lends, the row that is lent, and why none is.
 ghost use Rattle.std.specs.Prelude.{◌≡◌, ◌<◌};
-ghost use Rattle.refusals.specs.Checks.{answer_told, check_told};
+ghost use Rattle.refusals.specs.Checks.{answer_told};
 ghost use Rattle.matrices.specs.Buffers.{Square};
 ghost use Rattle.guards.specs.OnNetwork.{on_network};
 ghost use Rattle.handover.specs.Calls.{row_part, row_start, handover_check, lender_row, lender_said, lent_row, lent_start};
@@ -73,7 +73,7 @@ pub fn which_refusal(
     newer: &[u32],
     i: u32,
 ) -> Answer
-    ensures { answer_told result ≡ check_told (handover_check (on_network l n a.now) standing.now newer.now i) }
+    ensures { answer_told result ≡ answer_told (handover_check (on_network l n a.now) standing.now newer.now i) }
 {
     match lender(l, n, a, standing, newer, i) {
         LenderAnswer::Newer => Answer::Done,

@@ -8,10 +8,8 @@ use mathlib.Core.Logic.{◌⊎◌, inl, inr, ◌↔◌}
 use native.Mathlib.Omega.{arith}
 use lib.ListN.{length, length-take, length-drop}
 use Rattle.refusals.specs.declared.Refusal.{Refusal}
-use Rattle.refusals.specs.declared.Check.{Check}
-use Rattle.refusals.specs.declared.Check.TheVariants.{Passed, Refused}
 use Rattle.refusals.specs.Told.{told, done}
-use Rattle.refusals.specs.Checks.{check_told, if_passed}
+use Rattle.refusals.specs.Checks.{answer_told, if_passed, Check}
 use Rattle.refusals.proofs.First.{first_passes, pass_first}
 use Rattle.algebra.specs.Step.{Stretches}
 use Rattle.weights.specs.Sizes.{weight_words, matrix_sum}
@@ -35,9 +33,10 @@ use Rattle.refusals.specs.Cases.{ToldExactly, checks_of, refusal_numbers}
 use Rattle.guards.proofs.Cases.{arcs_exact, length_exact, node_exact, nodes_exact}
 use Rattle.guards.specs.OnNetwork.{OnNetwork, components}
 use Rattle.guards.proofs.Entering.{call_exact}
+use Rattle.std.specs.Prelude.{Ok, Err}
 
 -- the checks of a handover: what every call on A gives, two matrices of the right length, and a node
-pub handover_passes : (N : OnNetwork) (standing newer : List ℕ) (i : ℕ) → LawfulNetwork N → length newer ≡ N.n * (N.n * weight_words) → length standing ≡ N.n * (N.n * weight_words) → i < N.n → handover_check N standing newer i ≡ Passed
+pub handover_passes : (N : OnNetwork) (standing newer : List ℕ) (i : ℕ) → LawfulNetwork N → length newer ≡ N.n * (N.n * weight_words) → length standing ≡ N.n * (N.n * weight_words) → i < N.n → handover_check N standing newer i ≡ Ok tt
 handover_passes N standing newer i g e f h =
     pass_first (checks_of (handover_cases N standing newer i))
     (g.nodes, (g.count, (g.sound, (g.long, (sym (length_same 2 N.n newer e), (sym (length_same 5 N.n standing f), (g.law_d_holds, (g.law_u_holds, (g.arcs, (sym (node_in 0 N.n i h), tt))))))))))
@@ -60,8 +59,8 @@ module _ (N : OnNetwork) (standing newer : List ℕ) (i : ℕ) where
   handover_numbers = refl
 
   -- each refusal exactly where it is due, and done exactly where none is: of the call that tells which refusal ..
-  pub handover_told : ToldExactly (handover_cases N standing newer i) (check_told check)
-  handover_told = told_exactly (handover_cases N standing newer i) handover_exact (check_told check) refl
+  pub handover_told : ToldExactly (handover_cases N standing newer i) (answer_told check)
+  handover_told = told_exactly (handover_cases N standing newer i) handover_exact (answer_told check) refl
 
   -- .. and of the one that tells which matrix lends
   pub lender_told : ToldExactly (handover_cases N standing newer i) (lender_row N standing newer i).told
@@ -72,33 +71,33 @@ module _ (N : OnNetwork) (standing newer : List ℕ) (i : ℕ) where
   row_long : (s : List ℕ) → Square n s → i < n → length (row_part n i s) ≡ n * weight_words
   row_long s q h = simp (length-take, length-drop) (omega (arith, block_room (n * weight_words) i n h, q.long))
 
-  long : check ≡ Passed → length (lent_row N standing newer i) ≡ n * weight_words
+  long : check ≡ Ok tt → length (lent_row N standing newer i) ≡ n * weight_words
   long e = ap (λ (c : Check). length (if_passed c (cond (is_best N newer) (row_part n i newer) (row_part n i standing)) [])) e ∙ go (is_best N newer)
     where
-      go : (b : Bool) → length (if_passed Passed (cond b (row_part n i newer) (row_part n i standing)) []) ≡ n * weight_words
+      go : (b : Bool) → length (if_passed (Ok tt) (cond b (row_part n i newer) (row_part n i standing)) []) ≡ n * weight_words
       go true = row_long newer (sized N standing newer i e).new_square (sized N standing newer i e).node
       go false = row_long standing (sized N standing newer i e).standing_square (sized N standing newer i e).node
 
   -- The part is empty exactly when the second call tells a refusal.
-  pub empty_exactly : (lent_row N standing newer i ≡ []) ↔ ((x : Refusal) × (check_told check ≡ told x))
+  pub empty_exactly : (lent_row N standing newer i ≡ []) ↔ ((x : Refusal) × (answer_told check ≡ told x))
   empty_exactly = (λ e. there check refl e, λ h. ap (λ (c : Check). if_passed c (cond (is_best N newer) (row_part n i newer) (row_part n i standing)) []) ((told_check check h.0).0 h.1))
     where
-      there : (c : Check) → check ≡ c → lent_row N standing newer i ≡ [] → (x : Refusal) × (check_told check ≡ told x)
-      there Passed p e = absurd (let z : length (lent_row N standing newer i) ≡ 0 = ap length e in omega (arith, long p, (sized N standing newer i p).some))
-      there (Refused x) p e = (x, ap check_told p)
+      there : (c : Check) → check ≡ c → lent_row N standing newer i ≡ [] → (x : Refusal) × (answer_told check ≡ told x)
+      there (Ok _) p e = absurd (let z : length (lent_row N standing newer i) ≡ 0 = ap length e in omega (arith, long p, (sized N standing newer i p).some))
+      there (Err x) p e = (x, ap answer_told p)
 
-  by_test : (b : Bool) → check ≡ Passed → is_best N newer ≡ b → lent_row N standing newer i ≡ if_passed Passed (cond b (row_part n i newer) (row_part n i standing)) []
+  by_test : (b : Bool) → check ≡ Ok tt → is_best N newer ≡ b → lent_row N standing newer i ≡ if_passed (Ok tt) (cond b (row_part n i newer) (row_part n i standing)) []
   by_test b p q = ap₂ (λ (c : Check) (b : Bool). if_passed c (cond b (row_part n i newer) (row_part n i standing)) []) p q
 
   -- the new matrix passes the test: its row is lent
-  pub new_row_lent : check ≡ Passed → is_best N newer ≡ true → lent_row N standing newer i ≡ row_part n i newer
+  pub new_row_lent : check ≡ Ok tt → is_best N newer ≡ true → lent_row N standing newer i ≡ row_part n i newer
   new_row_lent p q = by_test true p q
 
   -- it does not: the standing one's is
-  pub standing_row_lent : check ≡ Passed → is_best N newer ≡ false → lent_row N standing newer i ≡ row_part n i standing
+  pub standing_row_lent : check ≡ Ok tt → is_best N newer ≡ false → lent_row N standing newer i ≡ row_part n i standing
   standing_row_lent p q = by_test false p q
 
-  module _ (limits : SmallLimits 65535 (components N)) (p : check ≡ Passed) where
+  module _ (limits : SmallLimits 65535 (components N)) (p : check ≡ Ok tt) where
     pub handover_lawful : LawfulNetwork N
     handover_lawful =
         let h = first_passes (checks_of (handover_cases N standing newer i)) p in

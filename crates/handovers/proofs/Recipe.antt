@@ -7,8 +7,6 @@ use native.Mathlib.Omega.{arith}
 use lib.Dec.{eqb}
 use lib.ListN.{length}
 use borrow.Author.Tests.{lt-ltb}
-use Rattle.refusals.specs.declared.Check.{Check}
-use Rattle.refusals.specs.declared.Check.TheVariants.{Passed, Refused}
 use Rattle.refusals.specs.Told.{done}
 use Rattle.refusals.proofs.First.{first_passes, if_passed_lem, both_pass}
 use Rattle.algebra.specs.Path.{Mem}
@@ -29,20 +27,20 @@ use Rattle.guards.specs.Checks.{first_settle, many_case, list_case}
 use Rattle.routes.specs.Calls.{step_of, step_fits, run_of, done_of, steps_check, ran_of, steps_row, steps_left, StepsRow, count_of, steps_cases, sum_check}
 use Rattle.guards.proofs.Singles.{nodes_passed}
 use Rattle.histories.specs.History.{BestColumn}
-use Rattle.histories.proofs.Reached.{network}
+use Rattle.histories.proofs.Reached.{network, length_steps}
 use Rattle.handover.specs.Calls.{best_words, is_best}
 use Rattle.holding.proofs.Words.{words_exactly}
-use Rattle.histories.proofs.Reached.{length_steps}
 use Rattle.histories.proofs.Histories.{settle_number, mem_steps}
 use Rattle.histories.proofs.Standing.{words_self, routes_formed}
 use Rattle.handovers.specs.Handovers.{LawfulNetwork, RowsOnly, SettlesAll}
 use Rattle.handovers.proofs.Tested.{call_lawful, net, entry_reads, only_best}
 use Rattle.refusals.specs.Cases.{checks_of}
 use Rattle.refusals.proofs.Cases.{done_check}
-use Rattle.refusals.specs.Checks.{if_passed}
+use Rattle.refusals.specs.Checks.{if_passed, Check}
 use Rattle.routes.proofs.Answers.{row_by_lem}
 use Rattle.histories.proofs.Exact.{steps_counted}
 use Rattle.guards.specs.OnNetwork.{OnNetwork, components, matrix_on, arcs_on}
+use Rattle.std.specs.Prelude.{Ok, Err}
 
 -- ---- sweeping
 
@@ -72,7 +70,7 @@ row_steps n (x ∷ list) h r = let k : x < n = r.0 in ap₂ (λ (s : Step) (t : 
 pub sweeping_never_repairs : (N : OnNetwork) (r list : List ℕ) → Solves (language (components N)) N.n (arcs_on N) (matrix_on N r) → RowsOnly N.n list → steps_left N r list ≡ r
 sweeping_never_repairs N r list e rows = go (steps_check N r list) refl
   where
-    passed : steps_check N r list ≡ Passed → matrix_words N.n (ran_of N r list) ≡ r
+    passed : steps_check N r list ≡ Ok tt → matrix_words N.n (ran_of N r list) ≡ r
     passed p =
         let h = first_passes (checks_of (steps_cases N r list)) p in
         ap (λ (s : List Step). matrix_words N.n (run_of (components N) N.n (arcs_on N) (matrix_on N r) s)) (row_steps N.n list (nodes_passed N.n h.0).1 rows)
@@ -81,8 +79,8 @@ sweeping_never_repairs N r list e rows = go (steps_check N r list) refl
         ∙ words_self matrix_sum (components N) N.n r (few N.language) (routes_formed N r (many_case list ∷ list_case N.n list ∷ []) h)
 
     go : (c : Check) → steps_check N r list ≡ c → steps_left N r list ≡ r
-    go Passed p = ap (λ (c : Check). if_passed c (matrix_words N.n (ran_of N r list)) r) p ∙ passed p
-    go (Refused x) p = ap (λ (c : Check). if_passed c (matrix_words N.n (ran_of N r list)) r) p
+    go (Ok _) p = ap (λ (c : Check). if_passed c (matrix_words N.n (ran_of N r list)) r) p ∙ passed p
+    go (Err x) p = ap (λ (c : Check). if_passed c (matrix_words N.n (ran_of N r list)) r) p
 
 -- ---- settling
 
@@ -114,7 +112,7 @@ module _ (N : OnNetwork) (r list : List ℕ) (limits : SmallLimits 65535 (compon
   steps = map step_of list
 
   -- a call that is done has passed its checks and done every step
-  passed : steps_check N r list ≡ Passed
+  passed : steps_check N r list ≡ Ok tt
   passed = (both_pass (steps_check N r list) (sum_check (count_of N r list) (length list)) ((done_check _).0 (sym (ap (λ (w : StepsRow). w.told) (row_by_lem N r list refl)) ∙ d))).0
 
   whole : done_of cs n A R steps ≡ length steps

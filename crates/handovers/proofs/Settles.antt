@@ -8,7 +8,6 @@ use mathlib.Core.Logic.{◌⊎◌, inl, inr}
 use native.Mathlib.Omega.{arith}
 use lib.ListN.{length, length-append}
 use borrow.Author.Tests.{lt-ltb, le-ltb}
-use Rattle.refusals.specs.declared.Check.TheVariants.{Passed}
 use Rattle.refusals.specs.Told.{done}
 use Rattle.refusals.proofs.First.{first_passes}
 use Rattle.algebra.specs.Path.{Mem}
@@ -33,6 +32,7 @@ use Rattle.handovers.proofs.Lent.{settling_lends_new}
 use Rattle.refusals.specs.Cases.{checks_of}
 use Rattle.routes.proofs.Answers.{row_by_lem, row_by}
 use Rattle.guards.specs.OnNetwork.{OnNetwork, components, matrix_on, arcs_on}
+use Rattle.std.specs.Prelude.{Ok}
 
 -- ---- settles alone
 
@@ -49,20 +49,20 @@ unfolding done_of
 all_done cs n A R [] s = refl
 all_done cs n A R (x ∷ list) s = rw (le-ltb x first_settle s.0.0) (ap suc (all_done cs n A (step (language cs) n A (settle (x - first_settle)) R) list s.1))
 
-module _ (N : OnNetwork) (r : List ℕ) (p : equation_check N r ≡ Passed) where
+module _ (N : OnNetwork) (r : List ℕ) (p : equation_check N r ≡ Ok tt) where
   open N use {n, arcs}
 
   -- A call with settles alone, in any order, at most 4,096, is done: from every matrix that passes the checks.
   pub settles_only_done : (list : List ℕ) → SettlesOnly n list → length list ≤ most_steps → steps_row N r list ≡ record { told = done; done = length list }
   settles_only_done list s h =
       row_by_lem N r list passes
-      ∙ ap (λ (k : ℕ). row_by Passed k (length list)) (all_done (components N) n (arcs_on N) (matrix_on N r) list s)
+      ∙ ap (λ (k : ℕ). row_by (Ok tt) k (length list)) (all_done (components N) n (arcs_on N) (matrix_on N r) list s)
       ∙ rw (le-ltb (length list) (length list) (omega arith))
     where
       few : n ≤ 16
       few = (nodes_passed n (first_passes (checks_of (equation_cases N r)) p).0).1
 
-      passes : steps_check N r list ≡ Passed
+      passes : steps_check N r list ≡ Ok tt
       passes = rest_goes_on N r (many_case list ∷ list_case n list ∷ []) p (passed_list n list h (settles_are_steps n list few s))
 
 -- ---- the n settles
@@ -88,7 +88,7 @@ settles_all (suc n) j h = go (below_suc j n h) (settles_all n j)
     go (inl k) ih = mem_left (first_settle + j) (settles n) ((first_settle + n) ∷ []) (ih k)
     go (inr e) ih = mem_right (first_settle + j) (settles n) ((first_settle + n) ∷ []) (inl (ap (first_settle +◌) e))
 
-module _ (N : OnNetwork) (r : List ℕ) (p : equation_check N r ≡ Passed) where
+module _ (N : OnNetwork) (r : List ℕ) (p : equation_check N r ≡ Ok tt) where
   open N use {n, arcs}
 
   -- The call with the n settles is done, from every matrix that passes the checks ..

@@ -4,8 +4,6 @@ use mathlib.Core.Path.{◌≡◌, refl, sym, subst}
 use mathlib.Core.Bool.{Bool, true, false, cond}
 use mathlib.Core.List.{List, [], ◌∷◌, map}
 use lib.Dec.{eqb}
-use Rattle.refusals.specs.declared.Check.{Check}
-use Rattle.refusals.specs.declared.Check.TheVariants.{Passed, Refused}
 use Rattle.refusals.specs.Told.{done}
 use Rattle.algebra.specs.Path.{Mem}
 use Rattle.algebra.specs.Best.{Best, best}
@@ -24,8 +22,9 @@ use Rattle.histories.proofs.Reached.{network}
 use Rattle.handovers.specs.Handovers.{LawfulNetwork}
 use Rattle.handovers.proofs.Tested.{call_lawful, net, is_best_lem, only_best, entry_reads}
 use Rattle.handovers.proofs.Recipe.{settled_column}
-use Rattle.refusals.specs.Checks.{if_passed}
+use Rattle.refusals.specs.Checks.{if_passed, Check}
 use Rattle.guards.specs.OnNetwork.{OnNetwork, components, matrix_on, arcs_on}
+use Rattle.std.specs.Prelude.{Ok, Err}
 
 module _ (N : OnNetwork) (j : ℕ) where
   open N use {n, arcs}
@@ -79,10 +78,10 @@ module _ (N : OnNetwork) (j : ℕ) where
     stays_best r list b = go (steps_check N r list) refl
       where
         go : (c : Check) → steps_check N r list ≡ c → BestColumn N (if_passed c (matrix_words n (run_of cs n A (matrix_on N r) (map step_of list))) r) j
-        go Passed p =
+        go (Ok tt) p =
             let g = call_lawful N r (many_case list ∷ list_case n list ∷ []) limits p in
             words_keep g (run_of cs n A (matrix_on N r) (map step_of list)) hj (run_keeps g (map step_of list) (matrix_on N r) b)
-        go (Refused x) p = b
+        go (Err x) p = b
 
     -- So do any number of them.
     pub stays_best_after : (r : List ℕ) (lists : List (List ℕ)) → BestColumn N r j → BestColumn N (after_calls N r lists) j

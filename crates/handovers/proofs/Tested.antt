@@ -7,7 +7,6 @@ use mathlib.Core.Logic.{◌↔◌}
 use native.Mathlib.Omega.{arith}
 use lib.ListN.{length}
 use Rattle.refusals.specs.declared.Refusal.TheVariants.{Law}
-use Rattle.refusals.specs.declared.Check.TheVariants.{Passed}
 use Rattle.refusals.proofs.First.{first_passes, unless_passes}
 use Rattle.algebra.specs.Network.{Network}
 use Rattle.algebra.specs.Best.{Best, best}
@@ -34,9 +33,10 @@ use Rattle.holding.proofs.Words.{words_exactly}
 use Rattle.handovers.specs.Handovers.{LawfulNetwork, EveryEntryBest}
 use Rattle.refusals.specs.Cases.{Case, checks_of, check_of}
 use Rattle.guards.specs.OnNetwork.{OnNetwork, components, matrix_on, arcs_on}
+use Rattle.std.specs.Prelude.{Ok}
 
 -- a call on A and R gives it
-pub call_lawful : (N : OnNetwork) (r : List ℕ) (rest : List Case) → SmallLimits 65535 (components N) → check_of (matrices_cases N r rest) ≡ Passed → LawfulNetwork N
+pub call_lawful : (N : OnNetwork) (r : List ℕ) (rest : List Case) → SmallLimits 65535 (components N) → check_of (matrices_cases N r rest) ≡ Ok tt → LawfulNetwork N
 call_lawful N r rest limits p =
     let h = first_passes (checks_of (matrices_cases N r rest)) p in
     record { nodes = h.0; count = h.1.0; sound = h.1.1.0; long = h.1.1.1.0; law_d_holds = h.1.1.1.1.1.0; law_u_holds = h.1.1.1.1.1.1.0; arcs = h.1.1.1.1.1.1.1.0; limits = limits }

@@ -5,7 +5,6 @@ use mathlib.Core.Bool.{false}
 use mathlib.Core.List.{List}
 use native.Mathlib.Omega.{arith}
 use lib.ListN.{length, get_or}
-use Rattle.refusals.specs.declared.Check.TheVariants.{Passed}
 use Rattle.refusals.specs.Told.{done}
 use Rattle.algebra.specs.Order.{pick, best_of}
 use Rattle.algebra.specs.Best.{best, best_among}
@@ -23,6 +22,7 @@ use Rattle.handovers.specs.Handovers.{RowsOnly, NotEnough}
 use Rattle.handovers.proofs.Recipe.{sweeping_never_repairs}
 use Rattle.handovers.proofs.Lent.{handover_passes, standing_row_lent, handover_lawful}
 use Rattle.guards.specs.OnNetwork.{components, matrix_on, arcs_on}
+use Rattle.std.specs.Prelude.{Ok}
 
 -- Satisfying the equation is not enough: the standing row is lent, and it is another.
 pub depots_not_enough : NotEnough depots depot_fresh_words depot_route_words 0
@@ -40,7 +40,7 @@ unfolding blocks words cell best best_among pick
 depots_not_best = refl
 
 -- .. and the checks pass, for every standing matrix of the right length and every node.
-depots_pass : (standing : List ℕ) (i : ℕ) → length standing ≡ 36 → i < 3 → handover_check depots standing depot_route_words i ≡ Passed
+depots_pass : (standing : List ℕ) (i : ℕ) → length standing ≡ 36 → i < 3 → handover_check depots standing depot_route_words i ≡ Ok tt
 depots_pass standing i e h =
     handover_passes depots standing depot_route_words i (handover_lawful depots depot_fresh_words depot_route_words 0 (omega arith, tt) depots_not_enough.passes) (length_matrix 3 depot_routes) e h
 

@@ -1,8 +1,7 @@
 -- What is said of handovers: when every entry is the best, lists of steps that repair a matrix or cannot, and why the equation
 -- alone is not enough.
 -- To be believed: all of it. The theorems are in proofs/Tested, Recipe, Stays, Lent, Settles and Worked.
-use Rattle.std.specs.Prelude.{ℕ, zero, suc, ◌+◌, ◌≤◌, ◌<◌, ◌≡◌, List, [], ◌∷◌, ◌++◌}
-use Rattle.refusals.specs.declared.Check.TheVariants.{Passed}
+use Rattle.std.specs.Prelude.{ℕ, zero, suc, ◌+◌, ◌≤◌, ◌<◌, ◌≡◌, List, [], ◌∷◌, ◌++◌, Ok}
 use Rattle.algebra.specs.Path.{Mem}
 use Rattle.algebra.specs.Best.{Best}
 use Rattle.algebra.specs.Step.{Solves}
@@ -40,18 +39,18 @@ SettlesAll n list = (j : ℕ) → j < n → Mem (first_settle + j) list
 
 -- what the checks of every call on A give: a lawful language whose limits are 16-bit numbers, n, and well-formed arcs
 pub record LawfulNetwork (N : OnNetwork) : Type 0 where
-  pub nodes : (nodes_case N.n).check ≡ Passed
-  pub count : (count_case N.language).check ≡ Passed
-  pub sound : (limit_case N.language).check ≡ Passed
-  pub long : (length_case 1 N.n N.arcs).check ≡ Passed
-  pub law_d_holds : (law_d_case (components N)).check ≡ Passed
-  pub law_u_holds : (law_u_case (components N)).check ≡ Passed
-  pub arcs : (arcs_case (components N) N.n N.arcs).check ≡ Passed
+  pub nodes : (nodes_case N.n).check ≡ Ok tt
+  pub count : (count_case N.language).check ≡ Ok tt
+  pub sound : (limit_case N.language).check ≡ Ok tt
+  pub long : (length_case 1 N.n N.arcs).check ≡ Ok tt
+  pub law_d_holds : (law_d_case (components N)).check ≡ Ok tt
+  pub law_u_holds : (law_u_case (components N)).check ≡ Ok tt
+  pub arcs : (arcs_case (components N) N.n N.arcs).check ≡ Ok tt
   pub limits : SmallLimits 65535 (components N)
 
 -- "Satisfying the routing equation is not enough": the new matrix satisfies it, yet the standing row is lent, which is another
 pub record NotEnough (N : OnNetwork) (standing newer : List ℕ) (i : ℕ) : Type 0 where
-  pub passes : handover_check N standing newer i ≡ Passed
+  pub passes : handover_check N standing newer i ≡ Ok tt
   pub satisfies : Solves (language (components N)) N.n (arcs_on N) (matrix_on N newer)
   pub lends : lent_row N standing newer i ≡ row_part N.n i standing
   pub another : row_part N.n i newer ≡ row_part N.n i standing → ⊥

@@ -11,11 +11,9 @@ use lib.ListN.{length}
 use borrow.Author.Tests.{ltb-true, ltb-false, lt-ltb}
 use Rattle.refusals.specs.declared.Refusal.{Refusal}
 use Rattle.refusals.specs.declared.Refusal.TheVariants.{Sum}
-use Rattle.refusals.specs.declared.Check.{Check}
-use Rattle.refusals.specs.declared.Check.TheVariants.{Passed, Refused}
 use Rattle.refusals.specs.Told.{told, done}
 use Rattle.refusals.specs.declared.Told.{Told}
-use Rattle.refusals.specs.Checks.{check_told}
+use Rattle.refusals.specs.Checks.{answer_told, Check}
 use Rattle.refusals.specs.Cases.{DueIn, ToldExactly, refusal_numbers}
 use Rattle.refusals.proofs.OneToOne.{told_one, told_not_done}
 use Rattle.refusals.proofs.First.{passed_not, refused_one}
@@ -32,6 +30,7 @@ use Rattle.routes.proofs.Answers.{row_by, row_by_lem}
 use Rattle.histories.proofs.Reached.{length_steps}
 use Rattle.histories.proofs.Over.{step_over, step_fits_lem}
 use Rattle.guards.specs.OnNetwork.{OnNetwork, components, matrix_on, arcs_on}
+use Rattle.std.specs.Prelude.{Ok, Err}
 
 -- ---- 11: at the first step that does not fit
 
@@ -67,26 +66,26 @@ done_most cs n A R (s ∷ steps) = go (step_fits cs n A R s) (done_most cs n A (
 -- ---- the row, by what the checks give and the steps that are done
 
 row_whole : (c : Check) (k m : ℕ) → k ≤ m → (row_by c k m).told ≡ done → (row_by c k m).done ≡ m
-row_whole (Refused x) k m h e = absurd (told_not_done x e)
-row_whole Passed k m h e = go (ltb k m) refl e
+row_whole (Err x) k m h e = absurd (told_not_done x e)
+row_whole (Ok _) k m h e = go (ltb k m) refl e
   where
-    go : (b : Bool) → ltb k m ≡ b → check_told (cond b (Refused (Sum 0 k)) Passed) ≡ done → k ≡ m
+    go : (b : Bool) → ltb k m ≡ b → answer_told (cond b (Err (Sum 0 k)) (Ok tt)) ≡ done → k ≡ m
     go true p q = absurd (told_not_done (Sum 0 k) q)
     go false p q = omega (arith, ltb-false k m p)
 
-row_stopped : (c : Check) (k m j : ℕ) → (c ≡ Refused (Sum 0 j) → ⊥) → (row_by c k m).told ≡ told (Sum 0 j) → (row_by c k m).done ≡ j
-row_stopped (Refused x) k m j n e = absurd (n (ap Refused (told_one x (Sum 0 j) e)))
-row_stopped Passed k m j n e = go (ltb k m) e
+row_stopped : (c : Check) (k m j : ℕ) → (c ≡ Err (Sum 0 j) → ⊥) → (row_by c k m).told ≡ told (Sum 0 j) → (row_by c k m).done ≡ j
+row_stopped (Err x) k m j n e = absurd (n (ap Err (told_one x (Sum 0 j) e)))
+row_stopped (Ok _) k m j n e = go (ltb k m) e
   where
-    go : (b : Bool) → check_told (cond b (Refused (Sum 0 k)) Passed) ≡ told (Sum 0 j) → k ≡ j
+    go : (b : Bool) → answer_told (cond b (Err (Sum 0 k)) (Ok tt)) ≡ told (Sum 0 j) → k ≡ j
     go true q = ap (λ (t : Told). t.place) q
     go false q = absurd (told_not_done (Sum 0 j) (sym q))
 
 row_refused : (c : Check) (k m : ℕ) (x : Refusal) → ((j : ℕ) → x ≡ Sum 0 j → ⊥) → (row_by c k m).told ≡ told x → (row_by c k m).done ≡ 0
-row_refused (Refused y) k m x n e = refl
-row_refused Passed k m x n e = go (ltb k m) e
+row_refused (Err y) k m x n e = refl
+row_refused (Ok _) k m x n e = go (ltb k m) e
   where
-    go : (b : Bool) → check_told (cond b (Refused (Sum 0 k)) Passed) ≡ told x → k ≡ 0
+    go : (b : Bool) → answer_told (cond b (Err (Sum 0 k)) (Ok tt)) ≡ told x → k ≡ 0
     go true q = absurd (n k (sym (told_one (Sum 0 k) x q)))
     go false q = absurd (told_not_done x (sym q))
 
@@ -104,18 +103,18 @@ module _ (N : OnNetwork) (r list : List ℕ) where
   stops : (k : ℕ) → ((count ≡ k) × (k < length (map step_of list))) ↔ Stops k
   stops k = stops_exactly (components N) n (arcs_on N) (matrix_on N r) k (map step_of list)
 
-  sum_refuses : (x : Refusal) → ((sum_case N r list).check ≡ Refused x) ↔ DueIn (sum_case N r list) x
+  sum_refuses : (x : Refusal) → ((sum_case N r list).check ≡ Err x) ↔ DueIn (sum_case N r list) x
   sum_refuses x = (λ e. there (ltb count (length list)) refl e, back)
     where
-      there : (b : Bool) → ltb count (length list) ≡ b → cond b (Refused (Sum 0 count)) Passed ≡ Refused x → DueIn (sum_case N r list) x
+      there : (b : Bool) → ltb count (length list) ≡ b → cond b (Err (Sum 0 count)) (Ok tt) ≡ Err x → DueIn (sum_case N r list) x
       there true p e = (count, sym (refused_one e), (stops count).0 (refl, rw (length_steps list) (ltb-true count (length list) p)))
       there false p e = absurd (passed_not x e)
 
-      back : DueIn (sum_case N r list) x → sum_check count (length list) ≡ Refused x
+      back : DueIn (sum_case N r list) x → sum_check count (length list) ≡ Err x
       back (k, q, s) =
           let h = (stops k).1 s in
           let m : k < length list = rw (length_steps list) at h.1 in
-          ap (λ (j : ℕ). sum_check j (length list)) h.0 ∙ rw (lt-ltb k (length list) m) (ap Refused (sym q))
+          ap (λ (j : ℕ). sum_check j (length list)) h.0 ∙ rw (lt-ltb k (length list) m) (ap Err (sym q))
 
   sum_exact : Exact (sum_case N r list)
   sum_exact = record { refuses = sum_refuses }
@@ -134,7 +133,7 @@ module _ (N : OnNetwork) (r list : List ℕ) where
       (steps_row N r list).told refl
 
   -- 11 at step k exactly where no check refuses and step k is the first that would store a sum above 983,025
-  pub steps_sum : (k : ℕ) → ((steps_row N r list).told ≡ told (Sum 0 k)) ↔ ((steps_check N r list ≡ Passed) × Stops k)
+  pub steps_sum : (k : ℕ) → ((steps_row N r list).told ≡ told (Sum 0 k)) ↔ ((steps_check N r list ≡ Ok tt) × Stops k)
   steps_sum k =
       let only = only_at 11 (running_cases N r list) (Sum 0 k) (λ place. refl) in
       let passes = passes_exactly (steps_cases N r list) steps_exact in

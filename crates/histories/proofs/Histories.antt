@@ -9,10 +9,8 @@ use lib.Dec.{eqb}
 use lib.ListN.{length, length-append}
 use borrow.Author.Tests.{le-ltb}
 use Rattle.refusals.specs.declared.Refusal.{Refusal}
-use Rattle.refusals.specs.declared.Check.{Check}
-use Rattle.refusals.specs.declared.Check.TheVariants.{Passed, Refused}
 use Rattle.refusals.specs.Told.{done}
-use Rattle.refusals.specs.Checks.{if_passed}
+use Rattle.refusals.specs.Checks.{if_passed, Check}
 use Rattle.refusals.proofs.OneToOne.{number_some}
 use Rattle.refusals.proofs.First.{first_passes, pass_first, unless_passes, if_passed_lem}
 use Rattle.algebra.specs.Network.{Network}
@@ -44,6 +42,7 @@ use Rattle.refusals.specs.declared.Refusal.TheVariants.{Law}
 use Rattle.refusals.specs.Cases.{checks_of, check_of}
 use Rattle.routes.proofs.Answers.{row_by_lem, row_by}
 use Rattle.guards.specs.OnNetwork.{OnNetwork, components, matrix_on, arcs_on}
+use Rattle.std.specs.Prelude.{Ok, Err}
 
 -- ---- lists
 
@@ -69,7 +68,7 @@ module _ (N : OnNetwork) (r : List ℕ) (b : HistoryBegun N r) where
   A = arcs_on N
 
   -- what the fresh call's checks and the checks of A give
-  abbrev passes : ((nodes_case n).check ≡ Passed) × (((count_case N.language).check ≡ Passed) × (((limit_case N.language).check ≡ Passed) × (((length_case 2 n r).check ≡ Passed) × (((law_d_case cs).check ≡ Passed) × (((law_u_case cs).check ≡ Passed) × Unit {0})))))
+  abbrev passes : ((nodes_case n).check ≡ Ok tt) × (((count_case N.language).check ≡ Ok tt) × (((limit_case N.language).check ≡ Ok tt) × (((length_case 2 n r).check ≡ Ok tt) × (((law_d_case cs).check ≡ Ok tt) × (((law_u_case cs).check ≡ Ok tt) × Unit {0})))))
   passes = first_passes ((nodes_case n).check ∷ (count_case N.language).check ∷ (limit_case N.language).check ∷ (length_case 2 n r).check ∷ (law_d_case cs).check ∷ (law_u_case cs).check ∷ []) b.fresh_done
 
   D : test_d cs ≡ true
@@ -106,7 +105,7 @@ module _ (N : OnNetwork) (r : List ℕ) (b : HistoryBegun N r) where
       formed = reached_formed cs (few N.language) b.limits ((limits_exact cs).0 passes.1.1.0) D U n arcs well (map step_of xs)
 
   module _ (xs list : List ℕ) where
-    module _ (e : steps_check N (mw xs) list ≡ Passed) where
+    module _ (e : steps_check N (mw xs) list ≡ Ok tt) where
       runs : (done_of cs n A (matrix_on N (mw xs)) (map step_of list) ≡ length (map step_of list)) × ((i j : ℕ) → i < n → j < n → run_of cs n A (matrix_on N (mw xs)) (map step_of list) i j ≡ reached (language cs) n A (map step_of xs ++ map step_of list) i j)
       runs = runs_on cs (few N.language) b.limits ((limits_exact cs).0 passes.1.1.0) D U n arcs well (map step_of xs) (map step_of list) (matrix_on N (mw xs)) (reads xs)
           (all_in n list (nodes_passed n passes.0).1 (list_passed n list (sym (call_check xs list) ∙ e)).1)
@@ -119,13 +118,13 @@ module _ (N : OnNetwork) (r : List ℕ) (b : HistoryBegun N r) where
       done_row : steps_row N (mw xs) list ≡ record { told = done; done = length list }
       done_row =
           row_by_lem N (mw xs) list e
-          ∙ ap (λ (k : ℕ). row_by Passed k (length list)) (runs.0 ∙ length_steps list)
+          ∙ ap (λ (k : ℕ). row_by (Ok tt) k (length list)) (runs.0 ∙ length_steps list)
           ∙ rw (le-ltb (length list) (length list) (omega arith))
 
       done_added : added_by N (mw xs) list ≡ list
       done_added = ap (λ (w : StepsRow). cond (eqb w.told.number 0) list []) done_row
 
-    module _ (x : Refusal) (e : steps_check N (mw xs) list ≡ Refused x) where
+    module _ (x : Refusal) (e : steps_check N (mw xs) list ≡ Err x) where
       refused_left : steps_left N (mw xs) list ≡ mw xs
       refused_left = ap (λ (c : Check). if_passed c (matrix_words n (run_of cs n A (matrix_on N (mw xs)) (map step_of list))) (mw xs)) e
 
@@ -137,8 +136,8 @@ module _ (N : OnNetwork) (r : List ℕ) (b : HistoryBegun N r) where
     call = go (steps_check N (mw xs) list) refl
       where
         go : (c : Check) → steps_check N (mw xs) list ≡ c → steps_left N (mw xs) list ≡ mw (xs ++ added_by N (mw xs) list)
-        go Passed e = done_left e ∙ ap (λ (ys : List ℕ). mw (xs ++ ys)) (sym (done_added e))
-        go (Refused x) e = refused_left x e ∙ ap mw (sym (append-nil xs) ∙ ap (xs ++◌) (sym (refused_added x e)))
+        go (Ok _) e = done_left e ∙ ap (λ (ys : List ℕ). mw (xs ++ ys)) (sym (done_added e))
+        go (Err x) e = refused_left x e ∙ ap mw (sym (append-nil xs) ∙ ap (xs ++◌) (sym (refused_added x e)))
 
   -- ---- many
 
@@ -184,20 +183,20 @@ module _ (N : OnNetwork) (r : List ℕ) (b : HistoryBegun N r) where
 
   -- ---- one call for two
 
-  module _ (lists : List (List ℕ)) (xs ys : List ℕ) (e : steps_check N (held N r lists) (xs ++ ys) ≡ Passed) where
+  module _ (lists : List (List ℕ)) (xs ys : List ℕ) (e : steps_check N (held N r lists) (xs ++ ys) ≡ Ok tt) where
     abbrev zs : List ℕ
     zs = ran N r lists
 
-    whole : steps_check N (mw zs) (xs ++ ys) ≡ Passed
+    whole : steps_check N (mw zs) (xs ++ ys) ≡ Ok tt
     whole = ap (λ (s : List ℕ). steps_check N s (xs ++ ys)) (sym (held_is lists)) ∙ e
 
     listed : (length (xs ++ ys) ≤ most_steps) × AllSteps n (xs ++ ys)
     listed = list_passed n (xs ++ ys) (sym (call_check zs (xs ++ ys)) ∙ whole)
 
-    first : steps_check N (mw zs) xs ≡ Passed
+    first : steps_check N (mw zs) xs ≡ Ok tt
     first = call_check zs xs ∙ passed_list n xs (let h = listed.0 in omega (arith, length-append xs ys)) (all_front n xs ys listed.1)
 
-    second : steps_check N (mw (zs ++ xs)) ys ≡ Passed
+    second : steps_check N (mw (zs ++ xs)) ys ≡ Ok tt
     second = call_check (zs ++ xs) ys ∙ passed_list n ys (let h = listed.0 in omega (arith, length-append xs ys)) (all_back n xs ys listed.1)
 
     two_calls : held N r (lists ++ (xs ++ ys) ∷ []) ≡ held N r (lists ++ xs ∷ ys ∷ [])

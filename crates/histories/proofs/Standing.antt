@@ -8,10 +8,8 @@ use lib.ListN.{length, take, drop, take-append-drop}
 use lib.Seq.{length-take-le}
 use borrow.Author.Tests.{le-ltb}
 use Rattle.refusals.specs.declared.Refusal.TheVariants.{Sum}
-use Rattle.refusals.specs.declared.Check.{Check}
-use Rattle.refusals.specs.declared.Check.TheVariants.{Passed, Refused}
 use Rattle.refusals.specs.Told.{told, done}
-use Rattle.refusals.specs.Checks.{Pass, if_passed}
+use Rattle.refusals.specs.Checks.{Pass, if_passed, Check}
 use Rattle.refusals.proofs.First.{first_passes, pass_first}
 use Rattle.algebra.specs.Step.{Step, step}
 use Rattle.weights.specs.declared.Component.{Component}
@@ -38,6 +36,7 @@ use Rattle.routes.specs.Stops.{StopsAt}
 use Rattle.refusals.specs.Cases.{Case, checks_of}
 use Rattle.routes.proofs.Answers.{row_by_lem, row_by}
 use Rattle.guards.specs.OnNetwork.{OnNetwork, components, matrix_on, arcs_on}
+use Rattle.std.specs.Prelude.{Ok, Err}
 
 -- a well-formed buffer is the words of the matrix that it holds
 pub words_self : (cap : ℕ) (cs : List Component) (n : ℕ) (s : List ℕ) → length cs ≤ places → Formed cap cs n s → matrix_words n (matrix_in (length cs) n s) ≡ s
@@ -57,8 +56,8 @@ unfolding run_of
 nothing_changes N r = go (steps_check N r []) refl
   where
     go : (c : Check) → steps_check N r [] ≡ c → if_passed c (matrix_words N.n (matrix_on N r)) r ≡ r
-    go Passed e = words_self matrix_sum (components N) N.n r (few N.language) (routes_formed N r (many_case [] ∷ list_case N.n [] ∷ []) (first_passes (checks_of (steps_cases N r [])) e))
-    go (Refused x) e = refl
+    go (Ok _) e = words_self matrix_sum (components N) N.n r (few N.language) (routes_formed N r (many_case [] ∷ list_case N.n [] ∷ []) (first_passes (checks_of (steps_cases N r [])) e))
+    go (Err x) e = refl
 
 -- ---- 11
 
@@ -91,7 +90,7 @@ module _ (N : OnNetwork) (r list : List ℕ) (k : ℕ) (e : (steps_row N r list)
   abbrev R : Matrix
   R = matrix_on N r
 
-  passes : steps_check N r list ≡ Passed
+  passes : steps_check N r list ≡ Ok tt
   passes = ((steps_sum N r list k).0 e).0
 
   stops : StopsAt cs n A R k (map step_of list)
@@ -100,7 +99,7 @@ module _ (N : OnNetwork) (r list : List ℕ) (k : ℕ) (e : (steps_row N r list)
   below : k < length list
   below = rw (length_steps list) at ((stops_exactly cs n A R k (map step_of list)).1 stops).1
 
-  front : steps_check N r (take k list) ≡ Passed
+  front : steps_check N r (take k list) ≡ Ok tt
   front =
       let p = first_passes (checks_of (steps_cases N r list)) passes in
       let q = list_passed n list (pass_first ((many_case list).check ∷ (list_case n list).check ∷ []) p.1.1.1.1.1.1.1.1.1) in
@@ -116,8 +115,8 @@ module _ (N : OnNetwork) (r list : List ℕ) (k : ℕ) (e : (steps_row N r list)
   first_done =
       let len : length (take k list) ≡ k = length-take-le k list (omega (arith, below)) in
       row_by_lem N r (take k list) front
-      ∙ ap (λ (m : ℕ). row_by Passed (done_of cs n A R (map step_of (take k list))) m) len
-      ∙ ap (λ (m : ℕ). row_by Passed m k) (ap (done_of cs n A R) (map_take k list) ∙ stops_done cs n A R k (map step_of list) stops)
+      ∙ ap (λ (m : ℕ). row_by (Ok tt) (done_of cs n A R (map step_of (take k list))) m) len
+      ∙ ap (λ (m : ℕ). row_by (Ok tt) m k) (ap (done_of cs n A R) (map_take k list) ∙ stops_done cs n A R k (map step_of list) stops)
       ∙ rw (le-ltb k k (omega arith))
 
   -- .. and leaves what the call that is refused 11 at step k leaves

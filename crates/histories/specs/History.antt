@@ -1,7 +1,6 @@
 -- Demand 3 about calls: histories of a done fresh call and then step calls with the same language, n and A.
 -- To be believed: all of it. That every history meets it is the theorem `history_demand_3` (proofs/Histories).
-use Rattle.std.specs.Prelude.{ℕ, suc, ◌+◌, ◌≤◌, ◌<◌, ◌≡◌, false, cond, List, [], ◌∷◌, ◌++◌, map, eqb, length}
-use Rattle.refusals.specs.declared.Check.TheVariants.{Passed}
+use Rattle.std.specs.Prelude.{ℕ, suc, ◌+◌, ◌≤◌, ◌<◌, ◌≡◌, false, cond, List, [], ◌∷◌, ◌++◌, map, eqb, length, Ok}
 use Rattle.refusals.specs.Told.{done}
 use Rattle.refusals.specs.Cases.{check_of}
 use Rattle.algebra.specs.Path.{Mem}
@@ -30,9 +29,9 @@ so_far N r (list ∷ lists) = added_by N r list ++ so_far N (steps_left N r list
 
 -- A fresh call on r was done, A passes its checks, and limits are 16-bit numbers.
 pub record HistoryBegun (N : OnNetwork) (r : List ℕ) : Type 0 where
-  pub fresh_done : fresh_check N.language N.n r ≡ Passed
-  pub arcs_long : (length_case 1 N.n N.arcs).check ≡ Passed
-  pub arcs_formed : (arcs_case (components N) N.n N.arcs).check ≡ Passed
+  pub fresh_done : fresh_check N.language N.n r ≡ Ok tt
+  pub arcs_long : (length_case 1 N.n N.arcs).check ≡ Ok tt
+  pub arcs_formed : (arcs_case (components N) N.n N.arcs).check ≡ Ok tt
   pub limits : SmallLimits 65535 (components N)
 
 -- column j of the matrix in s holds the best weights over paths that visit no node twice
@@ -65,6 +64,6 @@ module _ (N : OnNetwork) (r : List ℕ) where
     -- (5) a further call can only be refused 13 or 7 ..
     pub refuses : (list : List ℕ) → steps_check N (held lists) list ≡ check_of (many_case list ∷ list_case n list ∷ [])
     -- .. and is done with its whole list otherwise: 11 is never given
-    pub whole : (list : List ℕ) → steps_check N (held lists) list ≡ Passed → steps_row N (held lists) list ≡ record { told = done; done = length list }
+    pub whole : (list : List ℕ) → steps_check N (held lists) list ≡ Ok tt → steps_row N (held lists) list ≡ record { told = done; done = length list }
     -- (6) one done call with xs and then ys leaves what the call with xs and then the call with ys leave
-    pub joined : (xs ys : List ℕ) → steps_check N (held lists) (xs ++ ys) ≡ Passed → held (lists ++ (xs ++ ys) ∷ []) ≡ held (lists ++ xs ∷ ys ∷ [])
+    pub joined : (xs ys : List ℕ) → steps_check N (held lists) (xs ++ ys) ≡ Ok tt → held (lists ++ (xs ++ ys) ∷ []) ≡ held (lists ++ xs ∷ ys ∷ [])

@@ -8,9 +8,8 @@ use native.Mathlib.Omega.{arith}
 use lib.Dec.{eqb}
 use lib.ListN.{length}
 use Rattle.refusals.specs.declared.Refusal.{Refusal}
-use Rattle.refusals.specs.declared.Check.{Check}
-use Rattle.refusals.specs.declared.Check.TheVariants.{Passed, Refused}
-use Rattle.refusals.specs.Checks.{or_else, check_told, if_passed}
+use Rattle.refusals.specs.Checks.{answer_told, if_passed, Check}
+use Rattle.std.specs.Result.{result_and}
 use Rattle.refusals.specs.Cases.{Case}
 use Rattle.refusals.proofs.First.{both_pass}
 use Rattle.algebra.proofs.Embedding.{Goes, GoesTo, join_goes}
@@ -29,12 +28,12 @@ use Rattle.routes.specs.Calls.{equation_check}
 use Rattle.routes.proofs.Bridge.{buffer_goes, embedded, same_padded}
 use Rattle.routes.proofs.Order.{rest_stops, rest_goes_on, two_checks, placed_sound}
 use Rattle.guards.proofs.Singles.{node_passed}
-use Rattle.hops.specs.declared.HopFound.{HopFound}
-use Rattle.hops.specs.declared.HopAnswer.TheVariants.{Refused as HopRefused}
 use Rattle.hops.specs.NextHop.{is_hop, lowest_from, hop_of, found_at}
 use Rattle.hops.specs.Calls.{hop_check, HopRow, hop_row, hop_said}
 use Rattle.guards.specs.OnNetwork.{OnNetwork, components, matrix_on, arcs_on}
 use Rattle.guards.specs.Entrance.{Placed}
+use Rattle.numbers.specs.declared.Node.{Node}
+use Rattle.std.specs.Prelude.{Ok, Err}
 
 -- ---- in the places and in the language
 
@@ -61,7 +60,7 @@ module _ (cs : List Component) (p : Places) (h : length cs ≤ places) (placed :
 
 -- the row by what the checks give
 abbrev pub hop_row_by : Check → Option ℕ → HopRow
-hop_row_by c k = record { told = check_told c; node = if_passed c k nothing }
+hop_row_by c k = record { told = answer_told c; node = if_passed c k nothing }
 
 module _ (N : OnNetwork) (r : List ℕ) (i j : ℕ) where
   open N use {n, arcs}
@@ -75,24 +74,24 @@ module _ (N : OnNetwork) (r : List ℕ) (i j : ℕ) where
   by_check : (c : Check) → hop_check N r i j ≡ c → hop_row_by c rule ≡ hop_row N r i j
   by_check c e = ap (λ (c : Check). hop_row_by c rule) (sym e)
 
-  pub refused_before : (x : Refusal) → equation_check N r ≡ Refused x → hop_said (HopRefused x) ≡ hop_row N r i j
-  refused_before x e = by_check (Refused x) (rest_stops N r pair e)
+  pub refused_before : (x : Refusal) → equation_check N r ≡ Err x → hop_said (Err x) ≡ hop_row N r i j
+  refused_before x e = by_check (Err x) (rest_stops N r pair e)
 
-  module _ (e : equation_check N r ≡ Passed) {first second both : Check} (qi : first ≡ (node_case 0 n i).check) (qj : second ≡ (node_case 1 n j).check) (q : both ≡ or_else first second) where
+  module _ (e : equation_check N r ≡ Ok tt) {first second both : Check} (qi : first ≡ (node_case 0 n i).check) (qj : second ≡ (node_case 1 n j).check) (q : both ≡ result_and first second) where
     pair_first : {c : Check} → both ≡ c → hop_check N r i j ≡ c
     pair_first h = rest_goes_on N r pair e (sym (two_checks (node_case 0 n i).check (node_case 1 n j).check qi qj) ∙ sym q ∙ h)
 
-    pub pair_refused : (x : Refusal) → both ≡ Refused x → hop_said (HopRefused x) ≡ hop_row N r i j
-    pair_refused x h = by_check (Refused x) (pair_first h)
+    pub pair_refused : (x : Refusal) → both ≡ Err x → hop_said (Err x) ≡ hop_row N r i j
+    pair_refused x h = by_check (Err x) (pair_first h)
 
-    module _ (p : Places) (o : Placed N.language p) (g : Given (places_of p) n arcs r) (passed : both ≡ Passed) where
+    module _ (p : Places) (o : Placed N.language p) (g : Given (places_of p) n arcs r) (passed : both ≡ Ok tt) where
       pub pair_in : (i < n) × (j < n)
       pair_in = let h = both_pass first second (sym q ∙ passed) in (node_passed 0 n i (sym qi ∙ h.0), node_passed 1 n j (sym qj ∙ h.1))
 
       -- what the search found is the answer's node
-      pub found_row : (f : HopFound) → found_at f ≡ hop_of (places_of p) n (matrix_in places n arcs) (matrix_in places n r) i j → hop_row_by Passed (found_at f) ≡ hop_row N r i j
+      pub found_row : (f : (Option Node)) → found_at f ≡ hop_of (places_of p) n (matrix_in places n arcs) (matrix_in places n r) i j → hop_row_by (Ok tt) (found_at f) ≡ hop_row N r i j
       found_row f found =
           let s = placed_sound N.language p o in
-          ap (hop_row_by Passed) (found ∙ hop_goes (components N) p (few N.language) o.placed s n (arcs_on N) (matrix_in places n arcs) (matrix_on N r) (matrix_in places n r)
+          ap (hop_row_by (Ok tt)) (found ∙ hop_goes (components N) p (few N.language) o.placed s n (arcs_on N) (matrix_in places n arcs) (matrix_on N r) (matrix_in places n r)
           (buffer_goes (components N) p (few N.language) o.placed s n arcs arc_sum arcs g.arcs) (buffer_goes (components N) p (few N.language) o.placed s n arcs matrix_sum r g.routes) i j pair_in.0 pair_in.1)
-          ∙ by_check Passed (pair_first passed)
+          ∙ by_check (Ok tt) (pair_first passed)

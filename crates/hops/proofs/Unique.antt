@@ -6,14 +6,12 @@ use mathlib.Core.Option.{Option, some, none as nothing}
 use native.Mathlib.Omega.{arith}
 use Rattle.refusals.proofs.OneToOne.{told_one, told_not_done}
 use Rattle.numbers.specs.declared.Node.{Node}
-use Rattle.hops.specs.declared.HopFound.{HopFound}
-use Rattle.hops.specs.declared.HopFound.TheVariants.{At, Nothing}
-use Rattle.hops.specs.declared.HopAnswer.{HopAnswer}
-use Rattle.hops.specs.declared.HopAnswer.TheVariants.{Hop, NoHop, Refused as HopRefused}
 use Rattle.hops.specs.NextHop.{found_at}
 use Rattle.hops.specs.Calls.{HopRow, hop_row, hop_said}
 use Rattle.hops.proofs.Rule.{some_one}
 use Rattle.guards.specs.OnNetwork.{OnNetwork}
+use Rattle.std.specs.Prelude.{Result, Ok, Err, Some, None}
+use Rattle.refusals.specs.declared.Refusal.{Refusal}
 
 node_one : (k m : Node) → k.0 ≡ m.0 → k ≡ m
 node_one k m e = λ i. record { 0 = e i }
@@ -21,22 +19,22 @@ node_one k m e = λ i. record { 0 = e i }
 some_not : {k : ℕ} → ◌≡◌ {A = Option ℕ} (some k) nothing → ⊥
 some_not e = let z : ◌≡◌ {A = ℕ} 1 0 = cc in omega arith
 
-pub found_one : (f g : HopFound) → found_at f ≡ found_at g → f ≡ g
-found_one (At k) (At m) e = ap At (node_one k m (some_one e))
-found_one (At k) Nothing e = absurd (some_not e)
-found_one Nothing (At m) e = absurd (some_not (sym e))
-found_one Nothing Nothing e = refl
+pub found_one : (f g : (Option Node)) → found_at f ≡ found_at g → f ≡ g
+found_one (Some k) (Some m) e = ap Some (node_one k m (some_one e))
+found_one (Some k) None e = absurd (some_not e)
+found_one None (Some m) e = absurd (some_not (sym e))
+found_one None None e = refl
 
-hop_one : (x y : HopAnswer) → hop_said x ≡ hop_said y → x ≡ y
-hop_one (Hop k) (Hop m) e = ap Hop (node_one k m (some_one (ap (λ (w : HopRow). w.node) e)))
-hop_one (Hop k) NoHop e = absurd (some_not (ap (λ (w : HopRow). w.node) e))
-hop_one (Hop k) (HopRefused r) e = absurd (told_not_done r (sym (ap (λ (w : HopRow). w.told) e)))
-hop_one NoHop (Hop m) e = absurd (some_not (sym (ap (λ (w : HopRow). w.node) e)))
-hop_one NoHop NoHop e = refl
-hop_one NoHop (HopRefused r) e = absurd (told_not_done r (sym (ap (λ (w : HopRow). w.told) e)))
-hop_one (HopRefused r) (Hop m) e = absurd (told_not_done r (ap (λ (w : HopRow). w.told) e))
-hop_one (HopRefused r) NoHop e = absurd (told_not_done r (ap (λ (w : HopRow). w.told) e))
-hop_one (HopRefused r) (HopRefused s) e = ap HopRefused (told_one r s (ap (λ (w : HopRow). w.told) e))
+hop_one : (x y : (Result (Option Node) Refusal)) → hop_said x ≡ hop_said y → x ≡ y
+hop_one (Ok (Some k)) (Ok (Some m)) e = ap HOP (node_one k m (some_one (ap (λ (w : HopRow). w.node) e)))
+hop_one (Ok (Some k)) (Ok None) e = absurd (some_not (ap (λ (w : HopRow). w.node) e))
+hop_one (Ok (Some k)) (Err r) e = absurd (told_not_done r (sym (ap (λ (w : HopRow). w.told) e)))
+hop_one (Ok None) (Ok (Some m)) e = absurd (some_not (sym (ap (λ (w : HopRow). w.node) e)))
+hop_one (Ok None) (Ok None) e = refl
+hop_one (Ok None) (Err r) e = absurd (told_not_done r (sym (ap (λ (w : HopRow). w.told) e)))
+hop_one (Err r) (Ok (Some m)) e = absurd (told_not_done r (ap (λ (w : HopRow). w.told) e))
+hop_one (Err r) (Ok None) e = absurd (told_not_done r (ap (λ (w : HopRow). w.told) e))
+hop_one (Err r) (Err s) e = ap Err (told_one r s (ap (λ (w : HopRow). w.told) e))
 
-pub hop_answers_equal : (N : OnNetwork) (r : List ℕ) (i j : ℕ) (x y : HopAnswer) → hop_said x ≡ hop_row N r i j → hop_said y ≡ hop_row N r i j → x ≡ y
+pub hop_answers_equal : (N : OnNetwork) (r : List ℕ) (i j : ℕ) (x y : (Result (Option Node) Refusal)) → hop_said x ≡ hop_row N r i j → hop_said y ≡ hop_row N r i j → x ≡ y
 hop_answers_equal N r i j x y p q = hop_one x y (p ∙ sym q)

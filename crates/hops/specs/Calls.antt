@@ -1,18 +1,17 @@
 -- The call `next_hop`: its cases in 01's order, and its answer.
 -- To be believed: all of it.
-use Rattle.std.specs.Prelude.{ℕ, List, [], ◌∷◌}
+use Rattle.std.specs.Prelude.{ℕ, List, [], ◌∷◌, Result, Ok, Err, Some, None}
 use Rattle.std.proofs.Math.Option.{Option, some, none as nothing}
-use Rattle.refusals.specs.declared.Check.{Check}
 use Rattle.refusals.specs.declared.Told.{Told}
 use Rattle.refusals.specs.Told.{told, done}
 use Rattle.routes.specs.Calls.{matrices_cases}
-use Rattle.hops.specs.declared.HopAnswer.{HopAnswer}
-use Rattle.hops.specs.declared.HopAnswer.TheVariants.{Hop, NoHop, Refused as HopRefused}
 use Rattle.hops.specs.NextHop.{hop_of}
 use Rattle.refusals.specs.Cases.{Case, check_of}
-use Rattle.refusals.specs.Checks.{check_told, if_passed}
+use Rattle.refusals.specs.Checks.{answer_told, if_passed, Check}
 use Rattle.guards.specs.Checks.{node_case}
 use Rattle.guards.specs.OnNetwork.{OnNetwork, components, matrix_on, arcs_on}
+use Rattle.numbers.specs.declared.Node.{Node}
+use Rattle.refusals.specs.declared.Refusal.{Refusal}
 
 -- 3, 5, 4, 9 (A, R), 10, 6 on A, R, 7 for i, then for j
 abbrev pub hop_cases : OnNetwork → List ℕ → ℕ → ℕ → List Case
@@ -30,12 +29,12 @@ pub record HopRow : Type 0 where
 -- the row that the call answers: its first refusal, else done with the next hop from i to j or none
 abbrev pub hop_row : OnNetwork → List ℕ → ℕ → ℕ → HopRow
 hop_row N r i j = record {
-  told = check_told (hop_check N r i j);
+  told = answer_told (hop_check N r i j);
   node = if_passed (hop_check N r i j) (hop_of (components N) N.n (arcs_on N) (matrix_on N r) i j) nothing;
 }
 
 -- what the code's answer says
-abbrev pub hop_said : HopAnswer → HopRow
-hop_said (Hop node) = record { told = done; node = some node.0 }
-hop_said NoHop = record { told = done; node = nothing }
-hop_said (HopRefused x) = record { told = told x; node = nothing }
+abbrev pub hop_said : Result (Option Node) Refusal → HopRow
+hop_said (Ok (Some node)) = record { told = done; node = some node.0 }
+hop_said (Ok None) = record { told = done; node = nothing }
+hop_said (Err x) = record { told = told x; node = nothing }

@@ -1,14 +1,13 @@
 -- The next hop's rule (01, "Forwarding and the next hop"): "the lowest k other than i whose arc gives the route its weight".
 -- To be believed: `ArcGivesWeight` and `NextHop`. That `hop_of`, of which the contracts speak, gives exactly that node is
 -- `hop_exactly` (proofs/Rule); `found_at` joins the code to it.
-use Rattle.std.specs.Prelude.{ℕ, zero, suc, ◌<◌, ◌≡◌, Bool, cond, not, ◌&&◌, ◌||◌, List, eqb}
+use Rattle.std.specs.Prelude.{ℕ, zero, suc, ◌<◌, ◌≡◌, Bool, cond, not, ◌&&◌, ◌||◌, List, eqb, Some, None}
 use Rattle.std.proofs.Math.Option.{Option, some, none as nothing}
 use Rattle.weights.specs.declared.Component.{Component}
 use Rattle.weights.specs.Weights.{none, join}
 use Rattle.weights.specs.Values.{same}
 use Rattle.matrices.specs.Steps.{Matrix}
-use Rattle.hops.specs.declared.HopFound.{HopFound}
-use Rattle.hops.specs.declared.HopFound.TheVariants.{At, Nothing}
+use Rattle.numbers.specs.declared.Node.{Node}
 
 -- k is other than i, and its arc gives the route its weight: A(i,k) joined R(k,j) equals R(i,j)
 pub record ArcGivesWeight (cs : List Component) (n : ℕ) (A R : Matrix) (i j k : ℕ) : Type 0 where
@@ -39,6 +38,6 @@ abbrev pub hop_of : List Component → ℕ → Matrix → Matrix → ℕ → ℕ
 hop_of cs n A R i j = cond (eqb i j || same (R i j) none) nothing (lowest_from (is_hop cs A R i j) 0 n)
 
 -- what the code's search says
-abbrev pub found_at : HopFound → Option ℕ
-found_at (At node) = some node.0
-found_at Nothing = nothing
+abbrev pub found_at : Option Node → Option ℕ
+found_at (Some node) = some node.0
+found_at None = nothing

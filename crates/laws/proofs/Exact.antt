@@ -6,10 +6,8 @@ use mathlib.Core.Bool.{Bool, true, false}
 use mathlib.Core.List.{List, []}
 use mathlib.Core.Logic.{◌↔◌}
 use Rattle.refusals.specs.Told.{done}
-use Rattle.refusals.specs.declared.Check.{Check}
-use Rattle.refusals.specs.declared.Check.TheVariants.{Passed, Refused}
 use Rattle.refusals.proofs.OneToOne.{told_one, told_not_done}
-use Rattle.refusals.specs.Checks.{check_told}
+use Rattle.refusals.specs.Checks.{answer_told, Check}
 use Rattle.refusals.specs.Cases.{ToldExactly}
 use Rattle.refusals.proofs.Cases.{told_exactly}
 use Rattle.weights.specs.declared.Language.{Language}
@@ -26,10 +24,11 @@ use Rattle.laws.specs.declared.LawAnswer.{LawAnswer}
 use Rattle.laws.specs.declared.LawAnswer.TheVariants.{Laws, Refused as NoLaws}
 use Rattle.laws.specs.Verdicts.{Shown, LawsHold}
 use Rattle.laws.specs.Report.{LawRow, Report, law_row, laws_of, report_of, report, four_words, law_of, answer_row}
+use Rattle.std.specs.Prelude.{Ok, Err}
 
 -- ---- the verdicts, of a language that passes its checks
 
-module _ (l : Language) (e : language_check l ≡ Passed) where
+module _ (l : Language) (e : language_check l ≡ Ok tt) where
   told_laws : report l ≡ laws_of (components_of l)
   told_laws = ap (λ (k : Check). report_of k (components_of l)) e
 
@@ -74,21 +73,21 @@ module _ (l : Language) (e : language_check l ≡ Passed) where
 pub laws_exactly : (l : Language) → ((report l).told ≡ done) ↔ ((1 ≤ l.count) × (l.count ≤ places) × Sound (components_of l))
 laws_exactly l = (λ e. sound_count l (passes (language_check l) refl e), λ h. ap (λ (k : Check). (report_of k (components_of l)).told) (count_in l h.0 h.1 ∙ (limits_exact (components_of l)).1 h.2))
   where
-    passes : (k : Check) → language_check l ≡ k → (report_of k (components_of l)).told ≡ done → language_check l ≡ Passed
-    passes Passed p e = p
-    passes (Refused r) p e = absurd (told_not_done r e)
+    passes : (k : Check) → language_check l ≡ k → (report_of k (components_of l)).told ≡ done → language_check l ≡ Ok tt
+    passes (Ok _) p e = p
+    passes (Err r) p e = absurd (told_not_done r e)
 
 -- an answer with the laws says which hold
 pub answer_laws : (l : Language) (d u c : Law) → answer_row (Laws d u c) ≡ report l → LawsHold (components_of l) d u c
 answer_laws l d u c e =
-    let p : language_check l ≡ Passed = passed_by l (sym (ap (λ (r : Report). r.told) e)) in
+    let p : language_check l ≡ Ok tt = passed_by l (sym (ap (λ (r : Report). r.told) e)) in
     record {
       holds_d = same_test l p (ap (λ (r : Report). r.law_d.held) e) (d_reported l p);
       holds_u = same_test l p (ap (λ (r : Report). r.law_u.held) e) (u_reported l p);
       holds_c = same_test l p (ap (λ (r : Report). r.law_c.held) e) (c_reported l p);
     }
   where
-    passed_by : (l : Language) → (report l).told ≡ done → language_check l ≡ Passed
+    passed_by : (l : Language) → (report l).told ≡ done → language_check l ≡ Ok tt
     passed_by l e = let h = (laws_exactly l).0 e in count_in l h.0 h.1 ∙ (limits_exact (components_of l)).1 h.2
 
 -- ---- the refusals
@@ -97,9 +96,9 @@ answer_laws l d u c e =
 pub laws_told : (l : Language) → ToldExactly (language_cases l) (report l).told
 laws_told l = told_exactly (language_cases l) (language_exact l) (report l).told (tells (language_check l))
   where
-    tells : (k : Check) → (report_of k (components_of l)).told ≡ check_told k
-    tells Passed = refl
-    tells (Refused r) = refl
+    tells : (k : Check) → (report_of k (components_of l)).told ≡ answer_told k
+    tells (Ok _) = refl
+    tells (Err r) = refl
 
 -- ---- two answers with one row are equal
 

@@ -5,8 +5,6 @@ use mathlib.Core.Bool.{Bool, true, false, not}
 use mathlib.Core.List.{List, [], map}
 use lib.ListN.{length}
 use Rattle.refusals.specs.declared.Refusal.{Refusal}
-use Rattle.refusals.specs.declared.Check.{Check}
-use Rattle.refusals.specs.declared.Check.TheVariants.{Passed, Refused}
 use Rattle.weights.specs.declared.Component.{Component}
 use Rattle.weights.specs.declared.Language.{Language}
 use Rattle.weights.specs.declared.Places.{Places}
@@ -22,6 +20,8 @@ use Rattle.laws.specs.declared.LawAnswer.TheVariants.{Laws, Refused as NoLaws}
 use Rattle.laws.specs.Report.{value_words, no_words, law_row, laws_of, report_of, report, four_words, law_of, answer_row}
 use Rattle.laws.specs.Flags.{some_flag, over_at, before_flag, after_flag}
 use Rattle.laws.proofs.Overlays.{first_over, s_d_over, x_d_over, y_d_over, test_d_any, test_u_any, test_c_any}
+use Rattle.refusals.specs.Checks.{Check}
+use Rattle.std.specs.Prelude.{Ok, Err}
 
 -- ---- one law of the code, from what its parts ensure
 
@@ -111,7 +111,7 @@ module _ (cs : List Component) (h : length cs ≤ places) where
   pub padded_c : law_row (test_c (padded places cs)) (s_c (padded places cs)) (unit_values (padded places cs)) (s_c (padded places cs)) ≡ (laws_of cs).law_c
   padded_c = row_same (s_c cs) (unit_values cs) (s_c cs) (test_c_pad places cs h) (s_c_pad places cs h) (unit_pad places cs h) (s_c_pad places cs h)
 
-pub report_laws : (l : Language) (p : Places) (d u c : Law) → language_check l ≡ Passed → places_of p ≡ padded places (components_of l)
+pub report_laws : (l : Language) (p : Places) (d u c : Law) → language_check l ≡ Ok tt → places_of p ≡ padded places (components_of l)
     → law_of d ≡ law_row (test_d (places_of p)) (s_d (places_of p)) (x_d (places_of p)) (y_d (places_of p))
     → law_of u ≡ law_row (test_u (places_of p)) [] (x_u (places_of p)) []
     → law_of c ≡ law_row (test_c (places_of p)) (s_c (places_of p)) (unit_values (places_of p)) (s_c (places_of p))
@@ -129,5 +129,5 @@ report_laws l p d u c e q ed eu ec =
     row_c : law_of c ≡ (laws_of (components_of l)).law_c
     row_c = ec ∙ ap (λ (cs : List Component). law_row (test_c cs) (s_c cs) (unit_values cs) (s_c cs)) q ∙ padded_c (components_of l) (few l)
 
-pub report_refused : (l : Language) (r : Refusal) → language_check l ≡ Refused r → answer_row (NoLaws r) ≡ report l
+pub report_refused : (l : Language) (r : Refusal) → language_check l ≡ Err r → answer_row (NoLaws r) ≡ report l
 report_refused l r e = subst (λ (k : Check). answer_row (NoLaws r) ≡ report_of k (components_of l)) (sym e) refl

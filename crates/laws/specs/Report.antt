@@ -3,7 +3,6 @@
 use Rattle.std.specs.Prelude.{ℕ, Bool, false, cond, List, [], ◌∷◌}
 use Rattle.refusals.specs.declared.Told.{Told}
 use Rattle.refusals.specs.Told.{told, done}
-use Rattle.refusals.specs.declared.Check.{Check}
 use Rattle.weights.specs.declared.Component.{Component}
 use Rattle.weights.specs.declared.Language.{Language}
 use Rattle.weights.specs.Sizes.{weight_words}
@@ -15,7 +14,7 @@ use Rattle.laws.specs.declared.Words.{Words}
 use Rattle.laws.specs.declared.Law.{Law}
 use Rattle.laws.specs.declared.LawAnswer.{LawAnswer}
 use Rattle.laws.specs.declared.LawAnswer.TheVariants.{Laws, Refused as NoLaws}
-use Rattle.refusals.specs.Checks.{check_told, if_passed}
+use Rattle.refusals.specs.Checks.{answer_told, if_passed, Check}
 
 -- One law of the report: held or not, and the words of s, x and y.
 pub record LawRow : Type 0 where
@@ -63,7 +62,7 @@ laws_of cs = record {
 
 -- on refusal every other field is zero
 abbrev pub report_of : Check → List Component → Report
-report_of c cs = if_passed c (laws_of cs) (record { told = check_told c; law_d = untold; law_u = untold; law_c = untold })
+report_of c cs = if_passed c (laws_of cs) (record { told = answer_told c; law_d = untold; law_u = untold; law_c = untold })
 
 -- The law report of a language.
 abbrev pub report : Language → Report

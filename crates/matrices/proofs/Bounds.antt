@@ -19,11 +19,10 @@ use Rattle.weights.specs.Sizes.{places, weight_words, ones, arc_sum, matrix_sum}
 use Rattle.weights.specs.Weights.{Weight, none, route, Sound, Valid, ValidValue, ValidValues, join, join_values, join_value, better, better_of, unit, unit_values, unit_value, language}
 use Rattle.weights.specs.Languages.{places_of, SmallLimit, SmallLimits}
 use Rattle.weights.specs.Values.{AtMost, AllAtMost}
-use Rattle.weights.specs.Words.{words, all_are, in_range, fits, good, malformed, reading, decoded}
+use Rattle.weights.specs.Words.{words, all_are, in_range, fits, good, malformed, reading, decoded, is_good}
 use Rattle.weights.proofs.Ordering.{join_valid, unit_valid}
 use Rattle.weights.proofs.Readings.{well_read, well_valid}
 use Rattle.matrices.specs.Buffers.{words_at, entry_place, cell, matrix_in, Formed}
-use Rattle.weights.specs.Words.{is_good}
 use Rattle.matrices.specs.Steps.{sum_fits, sums_fit, weight_fits}
 use Rattle.matrices.specs.Parts.{all_low, low}
 

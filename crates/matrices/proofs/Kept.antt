@@ -13,9 +13,8 @@ use Rattle.weights.specs.declared.Places.{Places}
 use Rattle.weights.specs.Sizes.{places, weight_words, matrix_sum}
 use Rattle.weights.specs.Weights.{Weight, language}
 use Rattle.weights.specs.Languages.{places_of}
-use Rattle.weights.specs.Words.{reading, words, decoded}
+use Rattle.weights.specs.Words.{reading, words, decoded, is_good}
 use Rattle.matrices.specs.Buffers.{matrix_words, matrix_in, entry_place, Formed}
-use Rattle.weights.specs.Words.{is_good}
 use Rattle.matrices.specs.Steps.{Matrix, weight_fits, row_fits, stepped, Given}
 use Rattle.matrices.proofs.Blocks.{place_room}
 use Rattle.matrices.proofs.Entries.{length_matrix, words_cell, cell_back, matrix_four, matrix_reads}

@@ -9,35 +9,32 @@ use native.Mathlib.Numerals.{add-one}
 use native.Mathlib.Omega.{arith}
 use Rattle.refusals.specs.declared.Refusal.{Refusal}
 use Rattle.refusals.specs.declared.Refusal.TheVariants.{Value}
-use Rattle.refusals.specs.declared.Check.{Check}
-use Rattle.refusals.specs.declared.Check.TheVariants.{Passed, Refused}
 use Rattle.refusals.proofs.First.{passed_not}
 use Rattle.refusals.proofs.Cases.{Exact}
 use Rattle.weights.specs.declared.Component.{Component}
-use Rattle.weights.specs.declared.Read.{Read}
-use Rattle.weights.specs.declared.Read.TheVariants.{Good, Malformed}
 use Rattle.weights.specs.declared.Weight as declared
 use Rattle.weights.specs.Sizes.{weight_words}
-use Rattle.weights.specs.Words.{reading, read_of}
+use Rattle.weights.specs.Words.{reading, read_of, is_good}
 use Rattle.matrices.specs.Buffers.{entry_place, well_formed, first_malformed, entries_case, matrix_check, Square, Formed, AtFirstMalformed}
-use Rattle.weights.specs.Words.{is_good}
 use Rattle.refusals.specs.Cases.{DueIn}
+use Rattle.refusals.specs.Checks.{Check}
+use Rattle.std.specs.Prelude.{Option, Ok, Err, Some, None}
 
 -- ---- one entry further
 
 module _ (test : ℕ → Bool) (size which : ℕ) where
   pub first_more : (e c : ℕ) → e < c
-      → first_malformed test size which e (c - e) ≡ cond (test (e * size)) (first_malformed test size which (e + 1) (c - (e + 1))) (Refused (Value which (e * size)))
+      → first_malformed test size which e (c - e) ≡ cond (test (e * size)) (first_malformed test size which (e + 1) (c - (e + 1))) (Err (Value which (e * size)))
   unfolding first_malformed
   first_more e c h = let q : c - e ≡ suc (c - (e + 1)) = omega arith in rw (q, add-one)
 
   pub first_good : (e c : ℕ) → e < c → test (e * size) ≡ true → first_malformed test size which e (c - e) ≡ first_malformed test size which (e + 1) (c - (e + 1))
   first_good e c h t = first_more e c h ∙ rw t
 
-  pub first_bad : (e c : ℕ) → e < c → test (e * size) ≡ false → first_malformed test size which e (c - e) ≡ Refused (Value which (e * size))
+  pub first_bad : (e c : ℕ) → e < c → test (e * size) ≡ false → first_malformed test size which e (c - e) ≡ Err (Value which (e * size))
   first_bad e c h t = first_more e c h ∙ rw t
 
-  pub first_none : (e c : ℕ) → c ≤ e → first_malformed test size which e (c - e) ≡ Passed
+  pub first_none : (e c : ℕ) → c ≤ e → first_malformed test size which e (c - e) ≡ Ok tt
   unfolding first_malformed
   first_none e c h = let q : c - e ≡ 0 = omega arith in rw q
 
@@ -50,18 +47,18 @@ module _ (test : ℕ → Bool) (size which : ℕ) where
   next : (e m : ℕ) → Holds (suc e) m → Holds e (suc m)
   next e m h = let q : suc e + m ≡ e + suc m = omega arith in subst (λ (k : ℕ). test (k * size) ≡ true) q h
 
-  pub passes_all : (c e : ℕ) → first_malformed test size which e c ≡ Passed → (m : ℕ) → m < c → test ((e + m) * size) ≡ true
+  pub passes_all : (c e : ℕ) → first_malformed test size which e c ≡ Ok tt → (m : ℕ) → m < c → test ((e + m) * size) ≡ true
   unfolding first_malformed
   passes_all zero e h m l = absurd (omega arith)
   passes_all (suc c) e h m l = go (test (e * size)) refl h (passes_all c (suc e)) m l
     where
-      go : (b : Bool) → test (e * size) ≡ b → cond b (first_malformed test size which (suc e) c) (Refused (Value which (e * size))) ≡ Passed
-          → (first_malformed test size which (suc e) c ≡ Passed → (m : ℕ) → m < c → test ((suc e + m) * size) ≡ true) → (m : ℕ) → m < suc c → test ((e + m) * size) ≡ true
+      go : (b : Bool) → test (e * size) ≡ b → cond b (first_malformed test size which (suc e) c) (Err (Value which (e * size))) ≡ Ok tt
+          → (first_malformed test size which (suc e) c ≡ Ok tt → (m : ℕ) → m < c → test ((suc e + m) * size) ≡ true) → (m : ℕ) → m < suc c → test ((e + m) * size) ≡ true
       go true t q ih zero l = let z : e + zero ≡ e = omega arith in subst (λ (k : ℕ). test (k * size) ≡ true) (sym z) t
       go true t q ih (suc m) l = next e m (ih q m (omega arith))
       go false t q ih m l = absurd (passed_not (Value which (e * size)) (sym q))
 
-  pub all_passes : (c e : ℕ) → ((m : ℕ) → m < c → test ((e + m) * size) ≡ true) → first_malformed test size which e c ≡ Passed
+  pub all_passes : (c e : ℕ) → ((m : ℕ) → m < c → test ((e + m) * size) ≡ true) → first_malformed test size which e c ≡ Ok tt
   unfolding first_malformed
   all_passes zero e h = refl
   all_passes (suc c) e h =
@@ -77,7 +74,7 @@ module _ (test : ℕ → Bool) (size which : ℕ) where
     pub before : (m : ℕ) → m < entries → test ((e + m) * size) ≡ true
     pub told : r ≡ Value which ((e + entries) * size)
 
-  pub refuses_first : (c e : ℕ) (r : Refusal) → first_malformed test size which e c ≡ Refused r → First e c r
+  pub refuses_first : (c e : ℕ) (r : Refusal) → first_malformed test size which e c ≡ Err r → First e c r
   unfolding first_malformed
   refuses_first zero e r h = absurd (passed_not r h)
   refuses_first (suc c) e r h = go (test (e * size)) refl h (refuses_first c (suc e) r)
@@ -95,8 +92,8 @@ module _ (test : ℕ → Bool) (size which : ℕ) where
           so_far_lem zero l = let z : e + zero ≡ e = omega arith in subst (λ (k : ℕ). test (k * size) ≡ true) (sym z) t
           so_far_lem (suc m) l = next e m (f.before m (omega arith))
 
-      go : (b : Bool) → test (e * size) ≡ b → cond b (first_malformed test size which (suc e) c) (Refused (Value which (e * size))) ≡ Refused r
-          → (first_malformed test size which (suc e) c ≡ Refused r → First (suc e) c r) → First e (suc c) r
+      go : (b : Bool) → test (e * size) ≡ b → cond b (first_malformed test size which (suc e) c) (Err (Value which (e * size))) ≡ Err r
+          → (first_malformed test size which (suc e) c ≡ Err r → First (suc e) c r) → First e (suc c) r
       go true t q ih = later (ih q) t
       go false t q ih =
           let z : e + zero ≡ e = omega arith in
@@ -108,17 +105,17 @@ module _ (test : ℕ → Bool) (size which : ℕ) where
             told = let w : Value which (e * size) ≡ r = cc in sym w ∙ ap (λ (k : ℕ). Value which (k * size)) (sym z);
           }
 
-  pub first_refuses : (c e : ℕ) (r : Refusal) → First e c r → first_malformed test size which e c ≡ Refused r
+  pub first_refuses : (c e : ℕ) (r : Refusal) → First e c r → first_malformed test size which e c ≡ Err r
   unfolding first_malformed
   first_refuses zero e r f = absurd (omega (arith, f.within))
   first_refuses (suc c) e r f = go f.entries f.within f.fails f.before f.told (first_refuses c (suc e) r)
     where
       go : (k : ℕ) → k < suc c → test ((e + k) * size) ≡ false → ((m : ℕ) → m < k → test ((e + m) * size) ≡ true) → r ≡ Value which ((e + k) * size)
-          → (First (suc e) c r → first_malformed test size which (suc e) c ≡ Refused r) → cond (test (e * size)) (first_malformed test size which (suc e) c) (Refused (Value which (e * size))) ≡ Refused r
+          → (First (suc e) c r → first_malformed test size which (suc e) c ≡ Err r) → cond (test (e * size)) (first_malformed test size which (suc e) c) (Err (Value which (e * size))) ≡ Err r
       go zero w x b q ih =
           let z : e + zero ≡ e = omega arith in
           let here : test (e * size) ≡ false = subst (λ (k : ℕ). test (k * size) ≡ false) z x in
-          rw here (ap Refused (sym (q ∙ ap (λ (k : ℕ). Value which (k * size)) z)))
+          rw here (ap Err (sym (q ∙ ap (λ (k : ℕ). Value which (k * size)) z)))
       go (suc k) w x b q ih =
           let z : e + zero ≡ e = omega arith in
           let here : test (e * size) ≡ true = subst (λ (k : ℕ). test (k * size) ≡ true) z (b zero (omega arith)) in
@@ -136,7 +133,7 @@ pub first_cong : (t u : ℕ → Bool) (size which e c : ℕ) → ((m : ℕ) → 
 unfolding first_malformed
 first_cong t u size which e zero same = refl
 first_cong t u size which e (suc c) same =
-    ap₂ (λ (b : Bool) (k : Check). cond b k (Refused (Value which (e * size)))) (same e (omega arith)) (first_cong t u size which (suc e) c (λ m l. same m (omega arith)))
+    ap₂ (λ (b : Bool) (k : Check). cond b k (Err (Value which (e * size)))) (same e (omega arith)) (first_cong t u size which (suc e) c (λ m l. same m (omega arith)))
 
 -- ---- a matrix
 
@@ -155,11 +152,11 @@ pub entries_words : (n : ℕ) → n * (n * weight_words) ≡ n * n * weight_word
 entries_words n = sym (mul_assoc n n weight_words)
 
 -- what the code reads is the test
-pub read_bad : (cap : ℕ) (cs : List Component) (ws : List ℕ) (r : Read) → read_of r ≡ reading cap cs ws → r ≡ Malformed → is_good (reading cap cs ws) ≡ false
-read_bad cap cs ws r e q = ap is_good (sym e) ∙ ap (λ (r : Read). is_good (read_of r)) q
+pub read_bad : (cap : ℕ) (cs : List Component) (ws : List ℕ) (r : (Option declared.Weight)) → read_of r ≡ reading cap cs ws → r ≡ None → is_good (reading cap cs ws) ≡ false
+read_bad cap cs ws r e q = ap is_good (sym e) ∙ ap (λ (r : (Option declared.Weight)). is_good (read_of r)) q
 
-pub read_good : (cap : ℕ) (cs : List Component) (ws : List ℕ) (r : Read) (w : declared.Weight) → read_of r ≡ reading cap cs ws → r ≡ Good w → is_good (reading cap cs ws) ≡ true
-read_good cap cs ws r w e q = ap is_good (sym e) ∙ ap (λ (r : Read). is_good (read_of r)) q
+pub read_good : (cap : ℕ) (cs : List Component) (ws : List ℕ) (r : (Option declared.Weight)) (w : declared.Weight) → read_of r ≡ reading cap cs ws → r ≡ Some w → is_good (reading cap cs ws) ≡ true
+read_good cap cs ws r w e q = ap is_good (sym e) ∙ ap (λ (r : (Option declared.Weight)). is_good (read_of r)) q
 
 module _ (which cap : ℕ) (cs : List Component) (n : ℕ) (s : List ℕ) where
   -- entry m of the buffer is entry (m / n, m % n) of the matrix
@@ -189,7 +186,7 @@ module _ (which cap : ℕ) (cs : List Component) (n : ℕ) (s : List ℕ) where
       positive (suc n) h = omega arith
 
   -- it refuses exactly at the first malformed entry
-  entries_refuses : (r : Refusal) → ((entries_case which cap cs n s).check ≡ Refused r) ↔ DueIn (entries_case which cap cs n s) r
+  entries_refuses : (r : Refusal) → ((entries_case which cap cs n s).check ≡ Err r) ↔ DueIn (entries_case which cap cs n s) r
   entries_refuses r = (λ e. at_first_lem (refuses_first (well_formed cap cs s) weight_words which (n * n) 0 r e), λ (p, q, f). first_refuses (well_formed cap cs s) weight_words which (n * n) 0 r (first_at p q f))
     where
       first_at : (p : ℕ) → r ≡ Value which p → AtFirstMalformed cap cs n s p → First (well_formed cap cs s) weight_words which 0 (n * n) r
@@ -228,7 +225,7 @@ module _ (which cap : ℕ) (cs : List Component) (n : ℕ) (s : List ℕ) where
 
   module _ (square : Square n s) where
     -- what passes is well-formed
-    pub check_formed : matrix_check which cap cs n s ≡ Passed → Formed cap cs n s
+    pub check_formed : matrix_check which cap cs n s ≡ Ok tt → Formed cap cs n s
     check_formed e = record {
       square = square;
       reads = λ i j hi hj. subst (λ (k : ℕ). well_formed cap cs s k ≡ true) (place_is n i j)
@@ -237,9 +234,9 @@ module _ (which cap : ℕ) (cs : List Component) (n : ℕ) (s : List ℕ) where
     }
 
     -- .. and back
-    pub formed_check : Formed cap cs n s → matrix_check which cap cs n s ≡ Passed
+    pub formed_check : Formed cap cs n s → matrix_check which cap cs n s ≡ Ok tt
     formed_check f = all_passes (well_formed cap cs s) weight_words which (n * n) 0
         (λ m h. let g : Found m = found m h in subst (λ (k : ℕ). well_formed cap cs s k ≡ true) (sym g.same) (f.reads g.row g.column g.row_below g.column_below))
 
-    pub check_exactly : (matrix_check which cap cs n s ≡ Passed) ↔ Formed cap cs n s
+    pub check_exactly : (matrix_check which cap cs n s ≡ Ok tt) ↔ Formed cap cs n s
     check_exactly = (check_formed, formed_check)

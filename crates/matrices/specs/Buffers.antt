@@ -1,14 +1,13 @@
 -- Matrices of weights in flat buffers of words, by rows (01, "Numbers of the network"), and refusal 6 on one.
 -- To be believed: all but `row_in`, by which the inner functions speak of a row.
-use Rattle.std.specs.Prelude.{ℕ, zero, suc, ◌+◌, ◌*◌, ◌≤◌, ◌<◌, ◌≡◌, Bool, true, false, cond, List, [], ◌++◌, length, take, drop}
+use Rattle.std.specs.Prelude.{ℕ, zero, suc, ◌+◌, ◌*◌, ◌≤◌, ◌<◌, ◌≡◌, Bool, true, false, cond, List, [], ◌++◌, length, take, drop, Ok, Err}
 use Rattle.refusals.specs.declared.Refusal.TheVariants.{Value}
-use Rattle.refusals.specs.declared.Check.{Check}
-use Rattle.refusals.specs.declared.Check.TheVariants.{Passed, Refused}
 use Rattle.refusals.specs.Cases.{Case}
 use Rattle.weights.specs.declared.Component.{Component}
 use Rattle.weights.specs.Sizes.{weight_words}
 use Rattle.weights.specs.Weights.{Weight}
 use Rattle.weights.specs.Words.{words, reading, is_good, decoded}
+use Rattle.refusals.specs.Checks.{Check}
 
 -- f 0, f 1, .., f (n - 1), one after the other
 unfoldable pub blocks : ℕ → (ℕ → List ℕ) → List ℕ
@@ -49,8 +48,8 @@ well_formed cap cs s p = is_good (reading cap cs (words_at s p))
 
 -- The first of c entries, from entry e on, whose test fails: refusal 6, at its first word.
 unfoldable pub first_malformed : (ℕ → Bool) → ℕ → ℕ → ℕ → ℕ → Check
-first_malformed test size which e zero = Passed
-first_malformed test size which e (suc c) = cond (test (e * size)) (first_malformed test size which (suc e) c) (Refused (Value which (e * size)))
+first_malformed test size which e zero = Ok tt
+first_malformed test size which e (suc c) = cond (test (e * size)) (first_malformed test size which (suc e) c) (Err (Value which (e * size)))
 
 -- the check of a matrix: its first malformed entry, by rows
 abbrev pub matrix_check : ℕ → ℕ → List Component → ℕ → List ℕ → Check

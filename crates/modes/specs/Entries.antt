@@ -1,13 +1,11 @@
 -- A table's entries and the three modes (01, "Forwarding and the next hop"), over any language.
 -- To be believed: all but `entry_of`, which joins the code to the rest.
-use Rattle.std.specs.Prelude.{ℕ, ◌≤◌, Bool, true, false, cond, List, [], ◌∷◌, ltb, leb, eqb}
+use Rattle.std.specs.Prelude.{ℕ, ◌≤◌, Bool, true, false, cond, List, [], ◌∷◌, ltb, leb, eqb, Option, Some, None}
 use Rattle.algebra.specs.Modes as modes
 use Rattle.weights.specs.declared.Component.{Component}
 use Rattle.weights.specs.Weights.{Weight, none, route, ValidValues, better, join, language}
 use Rattle.modes.specs.declared.Mode.{Mode}
 use Rattle.modes.specs.declared.Mode.TheVariants.{Plain, Hot, Cold}
-use Rattle.modes.specs.declared.Chosen.{Chosen}
-use Rattle.modes.specs.declared.Chosen.TheVariants.{Fits, Unfit}
 use Rattle.modes.specs.declared.Entry as declared
 use Rattle.modes.specs.declared.Entry.TheVariants.{Mapped, Empty}
 
@@ -93,12 +91,12 @@ abbrev pub mode_of : Mode → (cs : List Component) → modes.Mode (language cs)
 mode_of mode cs = mode_by (ValidT mode) cs (comparing mode cs)
 
 -- the mode of a number
-abbrev pub numbered : ℕ → Chosen
-numbered number = cond (eqb number 1) (Fits Plain) (cond (eqb number 2) (Fits Hot) (cond (eqb number 3) (Fits Cold) Unfit))
+abbrev pub numbered : ℕ → Option Mode
+numbered number = cond (eqb number 1) (Some Plain) (cond (eqb number 2) (Some Hot) (cond (eqb number 3) (Some Cold) None))
 
 -- Whether a mode fits the language and the number of destinations: each mode fits every language, and none fits m 0.
-abbrev pub mode_for : List Component → ℕ → ℕ → Chosen
-mode_for cs m number = cond (leb 1 m) (numbered number) Unfit
+abbrev pub mode_for : List Component → ℕ → ℕ → Option Mode
+mode_for cs m number = cond (leb 1 m) (numbered number) None
 
 -- The mode needs law C besides D and U.
 abbrev pub needs_c : Mode → Bool

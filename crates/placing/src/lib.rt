@@ -4,10 +4,12 @@
 ghost use Rattle.std.specs.Prelude.{◌≡◌, cond, ltb};
 ghost use Rattle.weights.specs.declared.Component.TheVariants.{Class};
 ghost use Rattle.weights.specs.Sizes.{places};
-ghost use Rattle.weights.specs.Languages.{sound_limit, SmallLimit, padded, components_of, places_of, CheckSays};
+ghost use Rattle.weights.specs.Languages.{sound_limit, limits_from, SmallLimit, SmallLimits, padded, components_of, places_of, CheckSays};
+ghost use Rattle.refusals.specs.declared.Refusal.TheVariants.{BadComponent};
+ghost use Rattle.refusals.specs.Checks.{unless};
 
 use refusals::Refusal;
-use weights::{Checked, Component, Language, PLACES, Places};
+use weights::{Component, Language, PLACES, Places};
 
 fn place(count: u32, i: u32, c: Component) -> Component
     ensures { result ≡ cond (ltb i count) c (Class 0) }
@@ -19,61 +21,45 @@ fn place(count: u32, i: u32, c: Component) -> Component
 pub fn placed(l: Language) -> Places
     ensures { places_of result ≡ padded places (components_of l) }
 {
-    let n = l.count;
-    let one = l.first;
-    let two = l.second;
-    let three = l.third;
-    let four = l.fourth;
-    let first = place(n, 0, one);
-    let second = place(n, 1, two);
-    let third = place(n, 2, three);
-    let fourth = place(n, 3, four);
     Places {
-        first,
-        second,
-        third,
-        fourth,
+        first: place(l.count, 0, l.first),
+        second: place(l.count, 1, l.second),
+        third: place(l.count, 2, l.third),
+        fourth: place(l.count, 3, l.fourth),
     }
 }
 
-fn sound_limit(c: Component) -> bool
-    ensures { (result ≡ sound_limit c) × SmallLimit 65535 c }
+// 4: the limit of a width is not 0.
+fn check_limit(c: Component, place: u32) -> Result<(), Refusal>
+    ensures check { result ≡ unless (sound_limit c) (BadComponent 0 place) }
+    ensures small_limit { SmallLimit 65535 c }
 {
     match c {
-        Component::Dist => true,
-        Component::Width(w) => 1 <= w,
-        Component::Class(k) => true,
-        Component::Gain => true,
+        Component::Width(0) => Err(Refusal::BadComponent { which: 0, place }),
+        _ => Ok(()),
     }
+}
+
+// 4: the first width limit 0 in the places.
+fn check_limits(p: Places) -> Result<(), Refusal>
+    ensures check { result ≡ limits_from 0 (places_of p) }
+    ensures small_limits { SmallLimits 65535 (places_of p) }
+{
+    check_limit(p.first, 0)?;
+    check_limit(p.second, 1)?;
+    check_limit(p.third, 2)?;
+    check_limit(p.fourth, 3)
 }
 
 // What the check of a language finds: its places, or refusal 5, then 4.
-pub fn check(l: Language) -> Checked
+#[tactic(auto, using(weights::proofs::Checking::places_check))]
+pub fn check(l: Language) -> Result<Places, Refusal>
     ensures { CheckSays l result }
 {
-    let n = l.count;
-    if n < 1 {
-        return Checked::Unsound(Refusal::BadCount { which: 0, place: 0 });
-    }
-    if PLACES < n {
-        return Checked::Unsound(Refusal::BadCount { which: 0, place: 0 });
+    if l.count < 1 || PLACES < l.count {
+        return Err(Refusal::BadCount { which: 0, place: 0 });
     }
     let p = placed(l);
-    let one = p.first;
-    let two = p.second;
-    let three = p.third;
-    let four = p.fourth;
-    if !sound_limit(one) {
-        return Checked::Unsound(Refusal::BadComponent { which: 0, place: 0 });
-    }
-    if !sound_limit(two) {
-        return Checked::Unsound(Refusal::BadComponent { which: 0, place: 1 });
-    }
-    if !sound_limit(three) {
-        return Checked::Unsound(Refusal::BadComponent { which: 0, place: 2 });
-    }
-    if !sound_limit(four) {
-        return Checked::Unsound(Refusal::BadComponent { which: 0, place: 3 });
-    }
-    Checked::Sound(p)
+    check_limits(p)?;
+    Ok(p)
 }

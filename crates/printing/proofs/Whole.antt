@@ -8,12 +8,12 @@ use lib.ListN.{length, take, replicate, length-replicate}
 use Rattle.refusals.specs.declared.Refusal.{Refusal}
 use Rattle.refusals.specs.declared.Told.{Told}
 use Rattle.refusals.specs.Told.{told}
-use Rattle.refusals.specs.Checks.{check_told}
+use Rattle.refusals.specs.Checks.{answer_told}
 use Rattle.weights.specs.declared.Language.{Language}
 use Rattle.weights.specs.Sizes.{places, weight_words, entry_words}
 use Rattle.matrices.specs.Buffers.{Square}
 use Rattle.tables.specs.Tables.{Sized}
-use Rattle.forwarding.specs.Calls.{forward_check, forward_left}
+use Rattle.forwarding.specs.Calls.{forward_check, forward_left, OnTables, on_tables}
 use Rattle.files.specs.declared.ReadAnswer.TheVariants.{Done, Refused}
 use Rattle.files.specs.Answers.{ReadSays}
 use Rattle.encoded.proofs.Sizes.{head_in_ranges}
@@ -24,13 +24,12 @@ use Rattle.texts.specs.Lines.{refused_line}
 use Rattle.printing.specs.Work.{routes_told, routes_left, blank, table_told, table_left, blank_table}
 use Rattle.printing.specs.Printed.{laws_part, routes_part, forward_part, text_with, text_of, printed}
 use Rattle.printing.proofs.Answered.{text_done, text_refused}
-use Rattle.forwarding.specs.Calls.{OnTables, on_tables}
 use Rattle.guards.specs.OnNetwork.{OnNetwork, on_network}
 
 -- ---- the forwarding call
 
 module _ (T : OnTables) (f f₁ : List ℕ) (t : Told) where
-  pub table_tried : (x : Told) → x ≡ check_told (forward_check T f) → f₁ ≡ forward_left T f → t ≡ x
+  pub table_tried : (x : Told) → x ≡ answer_told (forward_check T f) → f₁ ≡ forward_left T f → t ≡ x
       → (t ≡ table_told T f) × (f₁ ≡ table_left T f)
   unfolding table_told table_left
   table_tried x e q h = (h ∙ e, q)

@@ -7,11 +7,9 @@ use native.Mathlib.Omega.{arith}
 use lib.ListN.{length, take}
 use lib.Seq.{length-take-le}
 use Rattle.refusals.specs.declared.Refusal.{Refusal}
-use Rattle.refusals.specs.declared.Check.{Check}
-use Rattle.refusals.specs.declared.Check.TheVariants.{Passed, Refused}
 use Rattle.refusals.specs.declared.Told.{Told}
 use Rattle.refusals.specs.Told.{told, done}
-use Rattle.refusals.specs.Checks.{check_told, if_passed}
+use Rattle.refusals.specs.Checks.{answer_told, if_passed, Check}
 use Rattle.refusals.proofs.OneToOne.{told_not_done}
 use Rattle.routes.specs.Calls.{fresh_check, fresh_left, StepsRow, steps_row, steps_left}
 use Rattle.decimals.specs.Texts.{Put}
@@ -21,6 +19,7 @@ use Rattle.algebra.specs.Step.{fresh}
 use Rattle.weights.specs.Weights.{language}
 use Rattle.matrices.specs.Buffers.{matrix_words}
 use Rattle.guards.specs.OnNetwork.{OnNetwork, components}
+use Rattle.std.specs.Prelude.{Ok, Err}
 
 -- ---- the list
 
@@ -41,26 +40,26 @@ module _ (N : OnNetwork) (r : List ℕ) (t : Told) where
   open N use {n}
 
   -- the fresh call is refused
-  pub fresh_refused : (r₁ : List ℕ) (x : Refusal) → told x ≡ check_told (fresh_check N.language n r) → r₁ ≡ fresh_left N.language n r → t ≡ told x
+  pub fresh_refused : (r₁ : List ℕ) (x : Refusal) → told x ≡ answer_told (fresh_check N.language n r) → r₁ ≡ fresh_left N.language n r → t ≡ told x
       → (t ≡ routes_told N r) × (r₁ ≡ routes_left N r)
   unfolding routes_told routes_left
   fresh_refused r₁ x e q h = go (fresh_check N.language n r) e q
     where
-      go : (k : Check) → told x ≡ check_told k → r₁ ≡ if_passed k (matrix_words n (fresh (language (components N)))) r
-          → (t ≡ if_passed k (steps_row N (fresh_left N.language n r) (sweeps_list n)).told (check_told k)) × (r₁ ≡ if_passed k (steps_left N (fresh_left N.language n r) (sweeps_list n)) r)
-      go Passed e q = absurd (told_not_done x e)
-      go (Refused y) e q = (h ∙ e, q)
+      go : (k : Check) → told x ≡ answer_told k → r₁ ≡ if_passed k (matrix_words n (fresh (language (components N)))) r
+          → (t ≡ if_passed k (steps_row N (fresh_left N.language n r) (sweeps_list n)).told (answer_told k)) × (r₁ ≡ if_passed k (steps_left N (fresh_left N.language n r) (sweeps_list n)) r)
+      go (Ok _) e q = absurd (told_not_done x e)
+      go (Err y) e q = (h ∙ e, q)
 
   -- the fresh call is done, and the steps are tried
-  pub steps_tried : (r₁ r₂ list : List ℕ) (row : StepsRow) → done ≡ check_told (fresh_check N.language n r) → r₁ ≡ fresh_left N.language n r → list ≡ sweeps_list n
+  pub steps_tried : (r₁ r₂ list : List ℕ) (row : StepsRow) → done ≡ answer_told (fresh_check N.language n r) → r₁ ≡ fresh_left N.language n r → list ≡ sweeps_list n
       → row ≡ steps_row N r₁ list → r₂ ≡ steps_left N r₁ list → t ≡ row.told
       → (t ≡ routes_told N r) × (r₂ ≡ routes_left N r)
   unfolding routes_told routes_left
   steps_tried r₁ r₂ list row e q w u v h = go (fresh_check N.language n r) e
     where
-      go : (k : Check) → done ≡ check_told k
-          → (t ≡ if_passed k (steps_row N (fresh_left N.language n r) (sweeps_list n)).told (check_told k)) × (r₂ ≡ if_passed k (steps_left N (fresh_left N.language n r) (sweeps_list n)) r)
-      go Passed e = (
+      go : (k : Check) → done ≡ answer_told k
+          → (t ≡ if_passed k (steps_row N (fresh_left N.language n r) (sweeps_list n)).told (answer_told k)) × (r₂ ≡ if_passed k (steps_left N (fresh_left N.language n r) (sweeps_list n)) r)
+      go (Ok _) e = (
         h ∙ ap (λ (z : StepsRow). z.told) u
             ∙ ap (λ (z : List ℕ). (steps_row N z list).told) q
             ∙ ap (λ (z : List ℕ). (steps_row N (fresh_left N.language n r) z).told) w,
@@ -68,4 +67,4 @@ module _ (N : OnNetwork) (r : List ℕ) (t : Told) where
             ∙ ap (λ (z : List ℕ). steps_left N z list) q
             ∙ ap (λ (z : List ℕ). steps_left N (fresh_left N.language n r) z) w,
       )
-      go (Refused y) e = absurd (told_not_done y (sym e))
+      go (Err y) e = absurd (told_not_done y (sym e))

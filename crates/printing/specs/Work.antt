@@ -3,7 +3,7 @@
 -- To be believed: all of it.
 use Rattle.std.specs.Prelude.{ℕ, ◌-◌, ◌*◌, List, [], ◌∷◌, replicate}
 use Rattle.refusals.specs.declared.Told.{Told}
-use Rattle.refusals.specs.Checks.{check_told, if_passed}
+use Rattle.refusals.specs.Checks.{answer_told, if_passed}
 use Rattle.weights.specs.Sizes.{weight_words, entry_words}
 use Rattle.matrices.specs.Buffers.{blocks}
 use Rattle.routes.specs.Calls.{fresh_check, fresh_left, steps_row, steps_left}
@@ -20,7 +20,7 @@ sweeps_list n = blocks (n - 1) (λ _. sweep_list n)
 
 -- The fresh call on a buffer r, then the step call with the sweeps: what is told, which is fresh's refusal where that is refused ..
 unfoldable pub routes_told : OnNetwork → List ℕ → Told
-routes_told N r = if_passed (fresh_check N.language N.n r) (steps_row N (fresh_left N.language N.n r) (sweeps_list N.n)).told (check_told (fresh_check N.language N.n r))
+routes_told N r = if_passed (fresh_check N.language N.n r) (steps_row N (fresh_left N.language N.n r) (sweeps_list N.n)).told (answer_told (fresh_check N.language N.n r))
 
 -- .. and what r holds after both calls
 unfoldable pub routes_left : OnNetwork → List ℕ → List ℕ
@@ -32,7 +32,7 @@ blank n = replicate (n * (n * weight_words)) 0
 
 -- The forwarding call on a buffer f: what is told, and what f holds then.
 unfoldable pub table_told : OnTables → List ℕ → Told
-table_told T f = check_told (forward_check T f)
+table_told T f = answer_told (forward_check T f)
 
 -- what f holds after the forwarding call
 unfoldable pub table_left : OnTables → List ℕ → List ℕ

@@ -7,9 +7,9 @@ use mathlib.Core.List.{List, [], ◌∷◌, ◌++◌}
 use native.Mathlib.Omega.{arith}
 use lib.ListN.{length, replicate}
 use Rattle.refusals.specs.declared.Refusal.TheVariants.{Bytes, Value, NoSuch, NotAscending}
-use Rattle.refusals.specs.Checks.{or_else}
+use Rattle.std.specs.Result.{result_and}
 use Rattle.refusals.specs.Cases.{check_of, refusal_numbers}
-use Rattle.refusals.proofs.First.{or_passed, or_else_assoc}
+use Rattle.refusals.proofs.First.{or_passed, result_and_assoc}
 use Rattle.refusals.proofs.Tests.{both_exactly, leb_exactly, ltb_exactly}
 use Rattle.refusals.proofs.Cases.{Exact, AllExact, unless_exact, no_more, ◌and◌, append_exact, check_in_turn}
 use Rattle.weights.specs.declared.Component.{Component}
@@ -82,10 +82,10 @@ record_numbers s h list at low = ap (λ (ns : List ℕ). 1 ∷ 7 ∷ 7 ∷ 8 ∷
 values_check_lem : (s : List ℕ) (cs : List Component) (at : ℕ) → values_check s cs at ≡ check_of (values_cases s cs at)
 unfolding values_check
 values_check_lem s [] at = refl
-values_check_lem s (c ∷ cs) at = ap (or_else (value_case s c at).check) (values_check_lem s cs (at + 2))
+values_check_lem s (c ∷ cs) at = ap (result_and (value_case s c at).check) (values_check_lem s cs (at + 2))
 
 module _ (s : List ℕ) (h : Head) where
-  ends_check_lem : (list : Listing) (at : ℕ) → ends_check h at (ends_at s list at) ≡ or_else (end_case s at h.n).check (end_case s (at + 1) (seconds h list)).check
+  ends_check_lem : (list : Listing) (at : ℕ) → ends_check h at (ends_at s list at) ≡ result_and (end_case s at h.n).check (end_case s (at + 1) (seconds h list)).check
   unfolding ends_check
   ends_check_lem Arcs at = refl
   ends_check_lem Attachments at = refl
@@ -94,8 +94,8 @@ module _ (s : List ℕ) (h : Head) where
   unfolding record_check
   record_check_lem list at low =
       rw (ends_check_lem list at, values_check_lem s (components_of h.language) (at + 2))
-      (ap (or_else (cut_case s at (length_of h list)).check)
-      ((or_else_assoc (end_case s at h.n).check (end_case s (at + 1) (seconds h list)).check (check_of (ascend_case s at low ∷ values_cases s (components_of h.language) (at + 2))))))
+      (ap (result_and (cut_case s at (length_of h list)).check)
+      ((result_and_assoc (end_case s at h.n).check (end_case s (at + 1) (seconds h list)).check (check_of (ascend_case s at low ∷ values_cases s (components_of h.language) (at + 2))))))
 
   records_check_lem : (list : Listing) (at low count : ℕ) → records_check s h list at low count ≡ check_of (records_cases s h list at low count)
   unfolding records_check records_cases
@@ -106,7 +106,7 @@ module _ (s : List ℕ) (h : Head) where
 
   list_check : (list : Listing) (at : ℕ) → record_list_check s h list at ≡ check_of (record_list_cases s h list at)
   unfolding record_list_check
-  list_check list at = ap (or_else (cut_case s at 2).check) (records_check_lem list (at + 2) 0 (two_at s at))
+  list_check list at = ap (result_and (cut_case s at 2).check) (records_check_lem list (at + 2) 0 (two_at s at))
 
   pub body_check_lem : (at : ℕ) → body_check s h at ≡ check_of (body_cases s h at)
   unfolding body_check

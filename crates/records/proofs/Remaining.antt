@@ -7,10 +7,9 @@ use native.Mathlib.Omega.{arith}
 use native.Mathlib.Numerals.{add-one}
 use lib.Dec.{eqb}
 use lib.ListN.{take, drop, length-take, drop_of_length-le}
-use Rattle.refusals.specs.declared.Check.{Check}
-use Rattle.refusals.specs.declared.Check.TheVariants.{Passed}
 use Rattle.refusals.specs.declared.Refusal.TheVariants.{Value}
-use Rattle.refusals.specs.Checks.{unless, or_else}
+use Rattle.refusals.specs.Checks.{unless, Check}
+use Rattle.std.specs.Result.{result_and}
 use Rattle.weights.specs.declared.Component.{Component}
 use Rattle.weights.specs.declared.Language.{Language}
 use Rattle.weights.specs.Sizes.{places, arc_sum}
@@ -21,6 +20,7 @@ use Rattle.records.specs.Records.{values_check, length_of, record_check, records
 use Rattle.records.specs.Parts.{component_at}
 use Rattle.fields.specs.declared.Head.{Head}
 use Rattle.records.specs.declared.Listing.{Listing}
+use Rattle.std.specs.Prelude.{Ok}
 
 -- ---- values
 
@@ -46,14 +46,14 @@ left_check s l at k = values_check s (drop k (components_of l)) (at + k * 2)
 
 module _ (s : List ℕ) (l : Language) (at k : ℕ) where
   pub values_more : k < l.count → l.count ≤ places
-      → left_check s l at k ≡ or_else (unless (in_range arc_sum (component_at l k) (two_at s (at + k * 2))) (Value 0 (at + k * 2))) (left_check s l at (k + 1))
+      → left_check s l at k ≡ result_and (unless (in_range arc_sum (component_at l k) (two_at s (at + k * 2))) (Value 0 (at + k * 2))) (left_check s l at (k + 1))
   unfolding values_check
   values_more h g =
       let q : at + k * 2 + 2 ≡ at + (k + 1) * 2 = omega arith in
       ap (λ (cs : List Component). values_check s cs (at + k * 2)) (at_four l.count k l.first l.second l.third l.fourth h g)
       ∙ rw (q, add-one k)
 
-  pub values_none : l.count ≤ k → left_check s l at k ≡ Passed
+  pub values_none : l.count ≤ k → left_check s l at k ≡ Ok tt
   unfolding values_check
   values_none h = ap (λ (cs : List Component). values_check s cs (at + k * 2)) (past_four l.count k (l.first ∷ l.second ∷ l.third ∷ l.fourth ∷ []) h)
 
@@ -65,10 +65,10 @@ values_all s l at = let q : at ≡ at + 0 * 2 = omega arith in ap (values_check 
 module _ (s : List ℕ) (h : Head) (list : Listing) (at low e count : ℕ) where
   pub records_more : e < count
       → records_check s h list at low (count - e)
-      ≡ or_else (record_check s h list at low) (records_check s h list (at + length_of h list) (two_at s at + 1) (count - (e + 1)))
+      ≡ result_and (record_check s h list at low) (records_check s h list (at + length_of h list) (two_at s at + 1) (count - (e + 1)))
   unfolding records_check
   records_more l = let q : count - e ≡ suc (count - (e + 1)) = omega arith in rw q
 
-  pub records_none : count ≤ e → records_check s h list at low (count - e) ≡ Passed
+  pub records_none : count ≤ e → records_check s h list at low (count - e) ≡ Ok tt
   unfolding records_check
   records_none l = let q : count - e ≡ 0 = omega arith in rw q

@@ -7,10 +7,9 @@ use lib.Dec.{eqb}
 use Rattle.refusals.specs.declared.Refusal.{Refusal}
 use Rattle.refusals.specs.declared.Refusal.TheVariants.{Bytes, Version, Size, BadComponent, BadCount, Value, NoSuch, NotAscending, Length, Law, Sum, Equation, TooMany}
 use Rattle.refusals.specs.declared.Told.{Told}
-use Rattle.refusals.specs.declared.Answer.{Answer}
-use Rattle.refusals.specs.declared.Answer.TheVariants.{Done, Refused as NotDone}
-use Rattle.refusals.specs.Checks.{answer_told}
+use Rattle.refusals.specs.Checks.{answer_told, Check}
 use Rattle.refusals.specs.Told.{told, done}
+use Rattle.std.specs.Prelude.{Ok, Err}
 
 -- the refusal of a number
 numbered : ℕ → ℕ → ℕ → Refusal
@@ -71,11 +70,11 @@ told_not_done (Equation w p) e = let z : ◌≡◌ {A = ℕ} 12 0 = ap number_of
 told_not_done (TooMany w p) e = let z : ◌≡◌ {A = ℕ} 13 0 = ap number_of e in omega arith
 
 -- two answers with one row are equal
-pub answer_one : (a b : Answer) → answer_told a ≡ answer_told b → a ≡ b
-answer_one Done Done e = refl
-answer_one Done (NotDone r) e = absurd (told_not_done r (sym e))
-answer_one (NotDone r) Done e = absurd (told_not_done r e)
-answer_one (NotDone r) (NotDone s) e = ap NotDone (told_one r s e)
+pub answer_one : (a b : Check) → answer_told a ≡ answer_told b → a ≡ b
+answer_one (Ok _) (Ok _) e = refl
+answer_one (Ok _) (Err r) e = absurd (told_not_done r (sym e))
+answer_one (Err r) (Ok _) e = absurd (told_not_done r e)
+answer_one (Err r) (Err s) e = ap Err (told_one r s e)
 
 -- a refusal's number is not 0
 pub number_some : (r : Refusal) → eqb (told r).number 0 ≡ false

@@ -2,13 +2,11 @@
 -- check, and what is promised of its answer.
 -- To be believed: `tells` and `due` in each case, and `ToldExactly`. That a check refuses exactly where its case says is proved once for each kind of
 -- case, beside it; that a call then tells exactly what is due is `told_exactly` (proofs/Cases).
-use Rattle.std.specs.Prelude.{ℕ, zero, suc, ◌≡◌, ◌⊎◌, ◌↔◌, Bool, cond, List, [], ◌∷◌}
+use Rattle.std.specs.Prelude.{ℕ, zero, suc, ◌≡◌, ◌⊎◌, ◌↔◌, Bool, cond, List, [], ◌∷◌, Ok, Err}
 use Rattle.refusals.specs.declared.Refusal.{Refusal}
-use Rattle.refusals.specs.declared.Check.{Check}
-use Rattle.refusals.specs.declared.Check.TheVariants.{Passed, Refused}
 use Rattle.refusals.specs.declared.Told.{Told}
 use Rattle.refusals.specs.Told.{told, done}
-use Rattle.refusals.specs.Checks.{unless, first_of}
+use Rattle.refusals.specs.Checks.{unless, first_of, Check}
 
 -- One case: the check that the code computes, the refusal that it tells at a place, and, in words, the places where that is due.
 pub record Case : Type 1 where
@@ -30,8 +28,8 @@ FirstNot So (suc k) (x ∷ xs) = So x × FirstNot So k xs
 
 -- the search of a list for it, counted from i
 abbrev pub first_from : {X : Type 0} → (X → Bool) → (ℕ → Refusal) → ℕ → List X → Check
-first_from test tells i [] = Passed
-first_from test tells i (x ∷ xs) = cond (test x) (first_from test tells (suc i) xs) (Refused (tells i))
+first_from test tells i [] = Ok tt
+first_from test tells i (x ∷ xs) = cond (test x) (first_from test tells (suc i) xs) (Err (tells i))
 
 -- the refusal is due at the first item that is not so; the test is So's
 abbrev pub due_at_first : {X : Type 0} → (X → Bool) → (X → Type 0) → (ℕ → Refusal) → List X → Case

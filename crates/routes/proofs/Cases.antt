@@ -3,7 +3,7 @@
 use Prim.Native.Nat.{ℕ}
 use mathlib.Core.Path.{refl, ◌≡◌}
 use mathlib.Core.List.{List, [], ◌∷◌}
-use Rattle.refusals.specs.Checks.{check_told}
+use Rattle.refusals.specs.Checks.{answer_told}
 use Rattle.refusals.specs.Cases.{Case, ToldExactly, refusal_numbers}
 use Rattle.refusals.proofs.Cases.{AllExact, told_exactly, no_more, ◌and◌}
 use Rattle.weights.specs.declared.Language.{Language}
@@ -28,8 +28,8 @@ fresh_numbers l n r = refl
 pub equation_numbers : (N : OnNetwork) (r : List ℕ) → refusal_numbers (equation_cases N r) ≡ 3 ∷ 5 ∷ 4 ∷ 9 ∷ 9 ∷ 10 ∷ 10 ∷ 6 ∷ 6 ∷ []
 equation_numbers N r = refl
 
-pub fresh_told : (l : Language) (n : ℕ) (r : List ℕ) → ToldExactly (fresh_cases l n r) (check_told (fresh_check l n r))
-fresh_told l n r = told_exactly (fresh_cases l n r) (fresh_exact l n r) (check_told (fresh_check l n r)) refl
+pub fresh_told : (l : Language) (n : ℕ) (r : List ℕ) → ToldExactly (fresh_cases l n r) (answer_told (fresh_check l n r))
+fresh_told l n r = told_exactly (fresh_cases l n r) (fresh_exact l n r) (answer_told (fresh_check l n r)) refl
 
 pub equation_told : (N : OnNetwork) (r : List ℕ) → ToldExactly (equation_cases N r) (equation_row N r).told
 equation_told N r = told_exactly (equation_cases N r) (matrices_exact N r no_more) (equation_row N r).told refl

@@ -10,7 +10,6 @@ use lib.ListN.{length, get_or, drop, drop_of_length-le}
 use lib.Seq.{drop-cons}
 use borrow.Author.Tests.{leb-true, ltb-true, ltb-false, lt-ltb, le-ltb, lt-leb, le-leb}
 use Rattle.refusals.specs.declared.Refusal.TheVariants.{NoSuch, TooMany}
-use Rattle.refusals.specs.declared.Check.TheVariants.{Passed, Refused}
 use Rattle.refusals.specs.Checks.{unless, first_of}
 use Rattle.refusals.proofs.First.{passed_not, or_passed}
 use Rattle.algebra.specs.Step.{Step, row, settle, step}
@@ -27,6 +26,7 @@ use Rattle.guards.specs.Checks.{is_step, steps_from, many_case, list_case, first
 use Rattle.routes.specs.Calls.{step_of, step_fits}
 use Rattle.routes.specs.Ready.{AllSteps, step_left, run_left, run_done}
 use Rattle.routes.proofs.Bridge.{StepIn, StepsIn}
+use Rattle.std.specs.Prelude.{Ok, Err}
 
 -- ---- one number
 
@@ -69,7 +69,7 @@ all_in n (x ∷ list) few s = (step_in n x few s.0, all_in n list few s.1)
 
 -- ---- the check of a list
 
-pub too_many : (n : ℕ) (list : List ℕ) → most_steps < length list → Refused (TooMany 0 0) ≡ first_of ((many_case list).check ∷ (list_case n list).check ∷ [])
+pub too_many : (n : ℕ) (list : List ℕ) → most_steps < length list → Err (TooMany 0 0) ≡ first_of ((many_case list).check ∷ (list_case n list).check ∷ [])
 too_many n list h = rw (lt-leb (length list) most_steps h)
 
 pub list_start : (n : ℕ) (list : List ℕ) → length list ≤ most_steps → first_of ((many_case list).check ∷ (list_case n list).check ∷ []) ≡ steps_from n 0 (drop 0 list)
@@ -82,10 +82,10 @@ module _ (n : ℕ) (list : List ℕ) (k : ℕ) where
   pub list_more : k < length list → is_step n here ≡ true → steps_from n k (drop k list) ≡ steps_from n (k + 1) (drop (k + 1) list)
   list_more h e = rw (add-one k, drop-cons list k 0 h, e)
 
-  pub list_bad : k < length list → is_step n here ≡ false → steps_from n k (drop k list) ≡ Refused (NoSuch 0 k)
+  pub list_bad : k < length list → is_step n here ≡ false → steps_from n k (drop k list) ≡ Err (NoSuch 0 k)
   list_bad h e = rw (drop-cons list k 0 h, e)
 
-  pub list_end_lem : k ≡ length list → steps_from n k (drop k list) ≡ Passed
+  pub list_end_lem : k ≡ length list → steps_from n k (drop k list) ≡ Ok tt
   list_end_lem e = rw (drop_of_length-le list {i = k} (omega arith))
 
   pub steps_here : k < length list → AllSteps n (drop k list) → is_step n here ≡ true
@@ -95,27 +95,27 @@ module _ (n : ℕ) (list : List ℕ) (k : ℕ) where
   steps_after h s = rw (add-one k) (rw (drop-cons list k 0 h) at s).1
 
 -- a list that passes has steps alone
-steps_pass : (n k : ℕ) (list : List ℕ) → steps_from n k list ≡ Passed → AllSteps n list
+steps_pass : (n k : ℕ) (list : List ℕ) → steps_from n k list ≡ Ok tt → AllSteps n list
 steps_pass n k [] e = tt
 steps_pass n k (x ∷ list) e = go (is_step n x) refl e (steps_pass n (suc k) list)
   where
-    go : (b : Bool) → is_step n x ≡ b → cond b (steps_from n (suc k) list) (Refused (NoSuch 0 k)) ≡ Passed → (steps_from n (suc k) list ≡ Passed → AllSteps n list) → (is_step n x ≡ true) × AllSteps n list
+    go : (b : Bool) → is_step n x ≡ b → cond b (steps_from n (suc k) list) (Err (NoSuch 0 k)) ≡ Ok tt → (steps_from n (suc k) list ≡ Ok tt → AllSteps n list) → (is_step n x ≡ true) × AllSteps n list
     go true p q ih = (p, ih q)
     go false p q ih = absurd (passed_not (NoSuch 0 k) (sym q))
 
-pub list_passed : (n : ℕ) (list : List ℕ) → first_of ((many_case list).check ∷ (list_case n list).check ∷ []) ≡ Passed → (length list ≤ most_steps) × AllSteps n list
+pub list_passed : (n : ℕ) (list : List ℕ) → first_of ((many_case list).check ∷ (list_case n list).check ∷ []) ≡ Ok tt → (length list ≤ most_steps) × AllSteps n list
 list_passed n list e = go (leb (length list) most_steps) refl e
   where
-    go : (b : Bool) → leb (length list) most_steps ≡ b → first_of (unless b (TooMany 0 0) ∷ (list_case n list).check ∷ []) ≡ Passed → (length list ≤ most_steps) × AllSteps n list
+    go : (b : Bool) → leb (length list) most_steps ≡ b → first_of (unless b (TooMany 0 0) ∷ (list_case n list).check ∷ []) ≡ Ok tt → (length list ≤ most_steps) × AllSteps n list
     go true p q = (leb-true (length list) most_steps p, steps_pass n 0 list (sym (or_passed (list_case n list).check) ∙ q))
     go false p q = absurd (passed_not (TooMany 0 0) (sym q))
 
 -- .. and the other way round
-steps_passed : (n k : ℕ) (list : List ℕ) → AllSteps n list → steps_from n k list ≡ Passed
+steps_passed : (n k : ℕ) (list : List ℕ) → AllSteps n list → steps_from n k list ≡ Ok tt
 steps_passed n k [] s = refl
 steps_passed n k (x ∷ list) s = rw s.0 (steps_passed n (suc k) list s.1)
 
-pub passed_list : (n : ℕ) (list : List ℕ) → length list ≤ most_steps → AllSteps n list → first_of ((many_case list).check ∷ (list_case n list).check ∷ []) ≡ Passed
+pub passed_list : (n : ℕ) (list : List ℕ) → length list ≤ most_steps → AllSteps n list → first_of ((many_case list).check ∷ (list_case n list).check ∷ []) ≡ Ok tt
 passed_list n list h s = rw (le-leb (length list) most_steps h) (or_passed (list_case n list).check ∙ steps_passed n 0 list s)
 
 pub all_front : (n : ℕ) (xs ys : List ℕ) → AllSteps n (xs ++ ys) → AllSteps n xs

@@ -3,9 +3,7 @@ use Prim.Native.Nat.{ℕ, ◌≤◌}
 use mathlib.Core.Path.{◌≡◌, refl, sym, ap, ap₂, subst, ◌∙◌}
 use mathlib.Core.List.{List, [], ◌∷◌}
 use Rattle.refusals.specs.declared.Refusal.{Refusal}
-use Rattle.refusals.specs.declared.Check.{Check}
-use Rattle.refusals.specs.declared.Check.TheVariants.{Passed, Refused}
-use Rattle.refusals.specs.Checks.{or_else}
+use Rattle.std.specs.Result.{result_and}
 use Rattle.refusals.specs.Cases.{Case, check_of}
 use Rattle.refusals.proofs.First.{or_passed, both_pass, stops, goes_on}
 use Rattle.refusals.proofs.Cases.{check_append}
@@ -28,6 +26,8 @@ use Rattle.guards.proofs.Singles.{nodes_passed, length_passed}
 use Rattle.guards.proofs.Entering.{entrance_refuses, entrance_leaves, sizes_passed, lengths_passed}
 use Rattle.routes.specs.Calls.{fresh_check, matrices_cases, equation_check}
 use Rattle.routes.proofs.Bridge.{check_pad}
+use Rattle.refusals.specs.Checks.{Check}
+use Rattle.std.specs.Prelude.{Ok, Err}
 
 -- ---- a language in its places
 
@@ -49,43 +49,43 @@ pub nodes_only : (n : ℕ) {found : Check} → found ≡ (nodes_case n).check �
 nodes_only n e = e ∙ sym (or_passed (nodes_case n).check)
 
 -- n is 1..16 where the sizes pass
-pub nodes_found : (n : ℕ) → check_of (nodes_case n ∷ []) ≡ Passed → (1 ≤ n) × (n ≤ most_nodes)
-nodes_found n e = nodes_passed n (both_pass (nodes_case n).check Passed e).0
+pub nodes_found : (n : ℕ) → check_of (nodes_case n ∷ []) ≡ Ok tt → (1 ≤ n) × (n ≤ most_nodes)
+nodes_found n e = nodes_passed n (both_pass (nodes_case n).check (Ok tt) e).0
 
 -- two checks, one after the other, as the list of them
-pub two_checks : {c d : Check} (x y : Check) → c ≡ x → d ≡ y → or_else c d ≡ or_else x (or_else y Passed)
-two_checks x y e f = ap₂ or_else e (f ∙ sym (or_passed y))
+pub two_checks : {c d : Check} (x y : Check) → c ≡ x → d ≡ y → result_and c d ≡ result_and x (result_and y (Ok tt))
+two_checks x y e f = ap₂ result_and e (f ∙ sym (or_passed y))
 
 -- ---- fresh
 
 module _ (l : Language) (n : ℕ) (r : List ℕ) {found measured : Check} (en : found ≡ (nodes_case n).check) (er : measured ≡ length_measured 2 n r) where
-  long : check_of (nodes_case n ∷ []) ≡ Passed → measured ≡ check_of (length_case 2 n r ∷ [])
+  long : check_of (nodes_case n ∷ []) ≡ Ok tt → measured ≡ check_of (length_case 2 n r ∷ [])
   long e = singles.measured 2 n r (nodes_found n e).1 er ∙ sym (or_passed (length_case 2 n r).check)
 
-  pub fresh_stops : {x : Refusal} → entrance_check l found measured ≡ Refused x → fresh_check l n r ≡ Refused x
+  pub fresh_stops : {x : Refusal} → entrance_check l found measured ≡ Err x → fresh_check l n r ≡ Err x
   fresh_stops e = entrance_refuses l (nodes_case n ∷ []) (length_case 2 n r ∷ []) [] found measured (nodes_only n en) long e
 
-  pub fresh_enters : {p : Places} → Entered l found measured p → (fresh_check l n r ≡ Passed) × Square n r
+  pub fresh_enters : {p : Places} → Entered l found measured p → (fresh_check l n r ≡ Ok tt) × Square n r
   fresh_enters o = (
     entrance_leaves l (nodes_case n ∷ []) (length_case 2 n r ∷ []) [] found measured (nodes_only n en) long o refl,
     length_passed 2 n r (nodes_found n (sizes_passed l (nodes_case n ∷ []) (length_case 2 n r ∷ []) [] found measured (nodes_only n en) long o)).1
-        (both_pass (length_case 2 n r).check Passed (lengths_passed l (nodes_case n ∷ []) (length_case 2 n r ∷ []) [] found measured (nodes_only n en) long o)).0,
+        (both_pass (length_case 2 n r).check (Ok tt) (lengths_passed l (nodes_case n ∷ []) (length_case 2 n r ∷ []) [] found measured (nodes_only n en) long o)).0,
   )
 
 -- ---- a call on A and R
 
 -- its checks go on past those of its matrices
-pub matrices_rest : (N : OnNetwork) (r : List ℕ) (rest : List Case) → check_of (matrices_cases N r rest) ≡ or_else (equation_check N r) (check_of rest)
+pub matrices_rest : (N : OnNetwork) (r : List ℕ) (rest : List Case) → check_of (matrices_cases N r rest) ≡ result_and (equation_check N r) (check_of rest)
 matrices_rest N r rest = check_append (matrices_cases N r []) rest
 
-pub rest_stops : (N : OnNetwork) (r : List ℕ) (rest : List Case) {x : Refusal} → equation_check N r ≡ Refused x → check_of (matrices_cases N r rest) ≡ Refused x
+pub rest_stops : (N : OnNetwork) (r : List ℕ) (rest : List Case) {x : Refusal} → equation_check N r ≡ Err x → check_of (matrices_cases N r rest) ≡ Err x
 rest_stops N r rest e = matrices_rest N r rest ∙ stops _ e
 
-pub rest_goes_on : (N : OnNetwork) (r : List ℕ) (rest : List Case) {c : Check} → equation_check N r ≡ Passed → check_of rest ≡ c → check_of (matrices_cases N r rest) ≡ c
+pub rest_goes_on : (N : OnNetwork) (r : List ℕ) (rest : List Case) {c : Check} → equation_check N r ≡ Ok tt → check_of rest ≡ c → check_of (matrices_cases N r rest) ≡ c
 rest_goes_on N r rest e q = matrices_rest N r rest ∙ goes_on e q
 
 module _ (N : OnNetwork) (r : List ℕ) {found in_arcs in_routes measured : Check} (en : found ≡ (nodes_case N.n).check)
-    (ea : in_arcs ≡ length_measured 1 N.n N.arcs) (er : in_routes ≡ length_measured 2 N.n r) (em : measured ≡ or_else in_arcs in_routes) where
+    (ea : in_arcs ≡ length_measured 1 N.n N.arcs) (er : in_routes ≡ length_measured 2 N.n r) (em : measured ≡ result_and in_arcs in_routes) where
   open N use {n, arcs}
 
   abbrev sizes : List Case
@@ -97,10 +97,10 @@ module _ (N : OnNetwork) (r : List ℕ) {found in_arcs in_routes measured : Chec
   abbrev entries : List Case
   entries = arcs_case (components N) n arcs ∷ routes_case (components N) n r ∷ []
 
-  both_long : check_of sizes ≡ Passed → measured ≡ check_of lengths
+  both_long : check_of sizes ≡ Ok tt → measured ≡ check_of lengths
   both_long e = em ∙ two_checks (length_case 1 n arcs).check (length_case 2 n r).check (singles.measured 1 n arcs (nodes_found n e).1 ea) (singles.measured 2 n r (nodes_found n e).1 er)
 
-  pub matrices_stop : {x : Refusal} → entrance_check N.language found measured ≡ Refused x → equation_check N r ≡ Refused x
+  pub matrices_stop : {x : Refusal} → entrance_check N.language found measured ≡ Err x → equation_check N r ≡ Err x
   matrices_stop e = entrance_refuses N.language sizes lengths entries found measured (nodes_only n en) both_long e
 
   module _ (p : Places) (o : Entered N.language found measured p) where
@@ -108,15 +108,15 @@ module _ (N : OnNetwork) (r : List ℕ) {found in_arcs in_routes measured : Chec
     squares =
         let small = (nodes_found n (sizes_passed N.language sizes lengths entries found measured (nodes_only n en) both_long o)).1 in
         let h = both_pass (length_case 1 n arcs).check _ (lengths_passed N.language sizes lengths entries found measured (nodes_only n en) both_long o) in
-        (length_passed 1 n arcs small h.0, length_passed 2 n r small (both_pass (length_case 2 n r).check Passed h.1).0)
+        (length_passed 1 n arcs small h.0, length_passed 2 n r small (both_pass (length_case 2 n r).check (Ok tt) h.1).0)
 
-    module _ {well_a well_r well : Check} (qa : well_a ≡ (arcs_case (places_of p) n arcs).check) (qr : well_r ≡ (routes_case (places_of p) n r).check) (q : well ≡ or_else well_a well_r) where
+    module _ {well_a well_r well : Check} (qa : well_a ≡ (arcs_case (places_of p) n arcs).check) (qr : well_r ≡ (routes_case (places_of p) n r).check) (q : well ≡ result_and well_a well_r) where
       pub entries_then : {c : Check} → well ≡ c → equation_check N r ≡ c
       entries_then e =
           entrance_leaves N.language sizes lengths entries found measured (nodes_only n en) both_long o
           (sym (two_checks (arcs_case (components N) n arcs).check (routes_case (components N) n r).check (qa ∙ arcs_same N.language p o.in_places n arcs squares.0) (qr ∙ routes_same N.language p o.in_places n r squares.1)) ∙ sym q ∙ e)
 
-      pub matrices_given : well ≡ Passed → (equation_check N r ≡ Passed) × Placed N.language p × Given (places_of p) n arcs r
+      pub matrices_given : well ≡ Ok tt → (equation_check N r ≡ Ok tt) × Placed N.language p × Given (places_of p) n arcs r
       matrices_given e =
           let h = both_pass well_a well_r (sym q ∙ e) in
           let s = o.in_places in (

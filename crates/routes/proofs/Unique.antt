@@ -3,26 +3,25 @@ use Prim.Native.Nat.{ℕ}
 use mathlib.Core.Path.{◌≡◌, refl, sym, ap, ap₂}
 use mathlib.Core.Bool.{true}
 use mathlib.Core.List.{List}
-use Rattle.refusals.specs.declared.Answer.{Answer}
-use Rattle.refusals.specs.Checks.{answer_told, check_told}
+use Rattle.refusals.specs.Checks.{answer_told, Check}
 use Rattle.refusals.proofs.OneToOne.{told_one, told_not_done, answer_one}
 use Rattle.refusals.proofs.Pinned.{equation_pins}
 use Rattle.weights.specs.declared.Language.{Language}
 use Rattle.weights.proofs.Ordering.{clash}
 use Rattle.routes.specs.declared.StepsAnswer.{StepsAnswer}
 use Rattle.routes.specs.declared.StepsAnswer.TheVariants.{Done, Refused as StepsRefused}
-use Rattle.routes.specs.declared.EquationAnswer.{EquationAnswer}
-use Rattle.routes.specs.declared.EquationAnswer.TheVariants.{Yes, No, Refused as EquationRefused}
-use Rattle.guards.specs.declared.Ready.{Ready}
 use Rattle.guards.specs.OnNetwork.{OnNetwork}
 use Rattle.routes.specs.Calls.{equation_check, fresh_check, fresh_left, StepsRow, steps_row, steps_left, steps_said, EquationRow, equation_row, equation_said}
 use Rattle.routes.specs.Ready.{MatricesReady}
 use Rattle.guards.proofs.Unique.{one_ready}
+use Rattle.std.specs.Prelude.{Result, Bool, false, Ok, Err}
+use Rattle.refusals.specs.declared.Refusal.{Refusal}
+use Rattle.weights.specs.declared.Places.{Places}
 
 -- what the buffer of fresh holds is pinned with the answer
-pub fresh_answers_equal : (l : Language) (n : ℕ) (r : List ℕ) (x y : Answer) (left right : List ℕ)
-    → (answer_told x ≡ check_told (fresh_check l n r)) × (left ≡ fresh_left l n r)
-    → (answer_told y ≡ check_told (fresh_check l n r)) × (right ≡ fresh_left l n r)
+pub fresh_answers_equal : (l : Language) (n : ℕ) (r : List ℕ) (x y : Check) (left right : List ℕ)
+    → (answer_told x ≡ answer_told (fresh_check l n r)) × (left ≡ fresh_left l n r)
+    → (answer_told y ≡ answer_told (fresh_check l n r)) × (right ≡ fresh_left l n r)
     → (x ≡ y) × (left ≡ right)
 fresh_answers_equal l n r x y left right p q = (answer_one x y (equation_pins p.0 q.0), equation_pins p.1 q.1)
 
@@ -39,21 +38,21 @@ pub steps_answers_equal : (N : OnNetwork) (r list : List ℕ) (x y : StepsAnswer
     → (x ≡ y) × (left ≡ right)
 steps_answers_equal N r list x y left right p q = (steps_one x y (equation_pins p.0 q.0), equation_pins p.1 q.1)
 
-equation_one : (x y : EquationAnswer) → equation_said x ≡ equation_said y → x ≡ y
-equation_one Yes Yes e = refl
-equation_one Yes No e = clash true refl (ap (λ (w : EquationRow). w.yes) e)
-equation_one Yes (EquationRefused r) e = absurd (told_not_done r (sym (ap (λ (w : EquationRow). w.told) e)))
-equation_one No Yes e = clash true refl (sym (ap (λ (w : EquationRow). w.yes) e))
-equation_one No No e = refl
-equation_one No (EquationRefused r) e = absurd (told_not_done r (sym (ap (λ (w : EquationRow). w.told) e)))
-equation_one (EquationRefused r) Yes e = absurd (told_not_done r (ap (λ (w : EquationRow). w.told) e))
-equation_one (EquationRefused r) No e = absurd (told_not_done r (ap (λ (w : EquationRow). w.told) e))
-equation_one (EquationRefused r) (EquationRefused s) e = ap EquationRefused (told_one r s (ap (λ (w : EquationRow). w.told) e))
+equation_one : (x y : (Result Bool Refusal)) → equation_said x ≡ equation_said y → x ≡ y
+equation_one (Ok true) (Ok true) e = refl
+equation_one (Ok true) (Ok false) e = clash true refl (ap (λ (w : EquationRow). w.yes) e)
+equation_one (Ok true) (Err r) e = absurd (told_not_done r (sym (ap (λ (w : EquationRow). w.told) e)))
+equation_one (Ok false) (Ok true) e = clash true refl (sym (ap (λ (w : EquationRow). w.yes) e))
+equation_one (Ok false) (Ok false) e = refl
+equation_one (Ok false) (Err r) e = absurd (told_not_done r (sym (ap (λ (w : EquationRow). w.told) e)))
+equation_one (Err r) (Ok true) e = absurd (told_not_done r (ap (λ (w : EquationRow). w.told) e))
+equation_one (Err r) (Ok false) e = absurd (told_not_done r (ap (λ (w : EquationRow). w.told) e))
+equation_one (Err r) (Err s) e = ap Err (told_one r s (ap (λ (w : EquationRow). w.told) e))
 
-pub equation_answers_equal : (N : OnNetwork) (r : List ℕ) (x y : EquationAnswer) → equation_said x ≡ equation_row N r → equation_said y ≡ equation_row N r → x ≡ y
+pub equation_answers_equal : (N : OnNetwork) (r : List ℕ) (x y : (Result Bool Refusal)) → equation_said x ≡ equation_row N r → equation_said y ≡ equation_row N r → x ≡ y
 equation_answers_equal N r x y p q = equation_one x y (equation_pins p q)
 
 -- ---- the checks
 
-pub ready_one : (N : OnNetwork) (r : List ℕ) (x y : Ready) → MatricesReady N r x → MatricesReady N r y → x ≡ y
+pub ready_one : (N : OnNetwork) (r : List ℕ) (x y : (Result Places Refusal)) → MatricesReady N r x → MatricesReady N r y → x ≡ y
 ready_one N r = one_ready N.language (equation_check N r) (MatricesReady N r) (λ p o. (o.0, o.1)) (λ x e. e)

@@ -1,13 +1,11 @@
 -- The calls fresh, steps and equation (01, "Steps"): each call's cases in 01's order, its answer, and what its buffer holds then.
 -- To be believed: all of it.
-use Rattle.std.specs.Prelude.{ℕ, suc, ◌-◌, Bool, true, false, cond, ◌≡◌, List, [], ◌∷◌, ◌++◌, map, ltb, length}
+use Rattle.std.specs.Prelude.{ℕ, suc, ◌-◌, Bool, true, false, cond, ◌≡◌, List, [], ◌∷◌, ◌++◌, map, ltb, length, Result, Ok, Err}
 use Rattle.refusals.specs.declared.Refusal.{Refusal}
 use Rattle.refusals.specs.declared.Refusal.TheVariants.{Sum}
-use Rattle.refusals.specs.declared.Check.{Check}
-use Rattle.refusals.specs.declared.Check.TheVariants.{Passed, Refused}
 use Rattle.refusals.specs.declared.Told.{Told}
 use Rattle.refusals.specs.Told.{told, done}
-use Rattle.refusals.specs.Checks.{check_told, if_passed}
+use Rattle.refusals.specs.Checks.{answer_told, if_passed, Check}
 use Rattle.refusals.specs.Cases.{Case, check_of}
 use Rattle.algebra.specs.Step.{Step, row, settle, fresh, step}
 use Rattle.weights.specs.declared.Component.{Component}
@@ -18,8 +16,6 @@ use Rattle.matrices.specs.Buffers.{matrix_words}
 use Rattle.matrices.specs.Steps.{Matrix, row_fits, solves}
 use Rattle.routes.specs.declared.StepsAnswer.{StepsAnswer}
 use Rattle.routes.specs.declared.StepsAnswer.TheVariants.{Done, Refused as StepsRefused}
-use Rattle.routes.specs.declared.EquationAnswer.{EquationAnswer}
-use Rattle.routes.specs.declared.EquationAnswer.TheVariants.{Yes, No, Refused as EquationRefused}
 use Rattle.guards.specs.Checks.{nodes_case, length_case, arcs_case, routes_case, many_case, list_case, call_cases, first_settle}
 use Rattle.guards.specs.OnNetwork.{OnNetwork, components, matrix_on, arcs_on}
 use Rattle.routes.specs.Stops.{StopsAt}
@@ -85,7 +81,7 @@ count_of N r list = done_of (components N) N.n (arcs_on N) (matrix_on N r) (map 
 
 -- 11, where k of m steps are done and k is not m
 abbrev pub sum_check : ℕ → ℕ → Check
-sum_check k m = cond (ltb k m) (Refused (Sum 0 k)) Passed
+sum_check k m = cond (ltb k m) (Err (Sum 0 k)) (Ok tt)
 
 -- 11 while running: at the first step that would store a sum above 983,025
 abbrev pub sum_case : OnNetwork → List ℕ → List ℕ → Case
@@ -106,7 +102,7 @@ pub record StepsRow : Type 0 where
 
 -- the row that the call answers: its first refusal, and the steps done, none where a check refuses
 abbrev pub steps_row : OnNetwork → List ℕ → List ℕ → StepsRow
-steps_row N r list = record { told = check_told (check_of (running_cases N r list)); done = if_passed (steps_check N r list) (count_of N r list) 0 }
+steps_row N r list = record { told = answer_told (check_of (running_cases N r list)); done = if_passed (steps_check N r list) (count_of N r list) 0 }
 
 -- what the call leaves in r: the matrix after the steps that are done, also after 11, or r as it was where a check refuses
 abbrev pub steps_left : OnNetwork → List ℕ → List ℕ → List ℕ
@@ -141,12 +137,12 @@ pub record EquationRow : Type 0 where
 -- the row that the call answers: its first refusal, else whether R satisfies R = (A join R) best fresh
 abbrev pub equation_row : OnNetwork → List ℕ → EquationRow
 equation_row N r = record {
-  told = check_told (equation_check N r);
+  told = answer_told (equation_check N r);
   yes = if_passed (equation_check N r) (solves (components N) N.n (arcs_on N) (matrix_on N r)) false;
 }
 
 -- what the code's answer says
-abbrev pub equation_said : EquationAnswer → EquationRow
-equation_said Yes = record { told = done; yes = true }
-equation_said No = record { told = done; yes = false }
-equation_said (EquationRefused x) = record { told = told x; yes = false }
+abbrev pub equation_said : Result Bool Refusal → EquationRow
+equation_said (Ok true) = record { told = done; yes = true }
+equation_said (Ok false) = record { told = done; yes = false }
+equation_said (Err x) = record { told = told x; yes = false }

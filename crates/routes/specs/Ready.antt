@@ -1,7 +1,6 @@
 -- What the inner functions say on the way to Calls: when a call's checks have passed, and runs on the words of a buffer.
 -- They join the code to Calls; nothing here has to be believed.
-use Rattle.std.specs.Prelude.{ℕ, suc, ◌≡◌, true, cond, List, [], ◌∷◌}
-use Rattle.refusals.specs.declared.Check.TheVariants.{Passed, Refused}
+use Rattle.std.specs.Prelude.{ℕ, suc, ◌≡◌, true, cond, List, [], ◌∷◌, Result, Ok, Err}
 use Rattle.algebra.specs.Step as algebra
 use Rattle.algebra.specs.Step.{step, row, settle}
 use Rattle.weights.specs.declared.Component.{Component}
@@ -10,19 +9,19 @@ use Rattle.weights.specs.Weights.{language}
 use Rattle.weights.specs.Languages.{places_of}
 use Rattle.matrices.specs.Buffers.{matrix_words, matrix_in}
 use Rattle.matrices.specs.Steps.{Given}
-use Rattle.guards.specs.declared.Ready.{Ready}
-use Rattle.guards.specs.declared.Ready.TheVariants.{Given as places_given, Refused as call_refused}
 use Rattle.guards.specs.OnNetwork.{OnNetwork}
 use Rattle.guards.specs.Entrance.{Placed}
 use Rattle.routes.specs.declared.Step.{Step}
 use Rattle.routes.specs.declared.Step.TheVariants.{Row, Settle}
 use Rattle.guards.specs.Checks.{is_step}
 use Rattle.routes.specs.Calls.{equation_check, step_fits}
+use Rattle.weights.specs.declared.Places.{Places}
+use Rattle.refusals.specs.declared.Refusal.{Refusal}
 
 -- what the checks of a call on A and R give: the places of a lawful language and two well-formed matrices, or the first refusal
-abbrev pub MatricesReady : OnNetwork → List ℕ → Ready → Type 0
-MatricesReady N r (places_given p) = (equation_check N r ≡ Passed) × Placed N.language p × Given (places_of p) N.n N.arcs r
-MatricesReady N r (call_refused x) = equation_check N r ≡ Refused x
+abbrev pub MatricesReady : OnNetwork → List ℕ → Result Places Refusal → Type 0
+MatricesReady N r (Ok p) = (equation_check N r ≡ Ok tt) × Placed N.language p × Given (places_of p) N.n N.arcs r
+MatricesReady N r (Err x) = equation_check N r ≡ Err x
 
 -- the step that the code's step means
 abbrev pub step_meant : Step → algebra.Step

@@ -1,10 +1,8 @@
 -- The cases that only forwarding has (01, "Refusal numbers"); the others are those of guards/specs/Checks.
 -- To be believed: all of it.
-use Rattle.std.specs.Prelude.{ℕ, ◌*◌, ◌≤◌, ◌≡◌, not, ◌||◌, cond, ◌&&◌, List, leb, eqb, length}
+use Rattle.std.specs.Prelude.{ℕ, ◌*◌, ◌≤◌, ◌≡◌, not, ◌||◌, cond, ◌&&◌, List, leb, eqb, length, Option, Ok, Err, Some, None}
 use Rattle.refusals.specs.declared.Refusal.TheVariants.{Size, Length, Law, Equation}
-use Rattle.refusals.specs.declared.Check.{Check}
-use Rattle.refusals.specs.declared.Check.TheVariants.{Passed, Refused}
-use Rattle.refusals.specs.Checks.{unless}
+use Rattle.refusals.specs.Checks.{unless, Check}
 use Rattle.weights.specs.declared.Component.{Component}
 use Rattle.algebra.specs.Step.{Solves}
 use Rattle.weights.specs.Weights.{language}
@@ -14,8 +12,6 @@ use Rattle.matrices.specs.Buffers.{matrix_in}
 use Rattle.matrices.specs.Steps.{solves}
 use Rattle.modes.specs.declared.Mode.{Mode}
 use Rattle.modes.specs.declared.Mode.TheVariants.{Plain}
-use Rattle.modes.specs.declared.Chosen.{Chosen}
-use Rattle.modes.specs.declared.Chosen.TheVariants.{Fits, Unfit}
 use Rattle.modes.specs.Entries.{mode_for, needs_c}
 use Rattle.tables.specs.Tables.{table_case}
 use Rattle.refusals.specs.Cases.{Case, due_unless}
@@ -32,9 +28,9 @@ abbrev pub destinations_case : ℕ → Case
 destinations_case m = due_unless (leb m most_destinations) (m ≤ most_destinations) (Size 2) 0
 
 -- 3, which 3, where no mode fits
-abbrev pub chosen_check : Chosen → Check
-chosen_check (Fits mode) = Passed
-chosen_check Unfit = Refused (Size 3 0)
+abbrev pub chosen_check : Option Mode → Check
+chosen_check (Some mode) = Ok tt
+chosen_check None = Err (Size 3 0)
 
 -- the mode is 1, 2 or 3, and there is a destination
 abbrev pub ModeFits : ℕ → ℕ → Type 0
@@ -45,9 +41,9 @@ abbrev pub mode_case : List Component → ℕ → ℕ → Case
 mode_case cs m number = record { check = chosen_check (mode_for cs m number); tells = Size 3; due = λ place. (place ≡ 0) × (ModeFits m number → ⊥) }
 
 -- the mode of a number that fits; where none does, the call is refused 3 before a mode is asked for
-abbrev pub chosen_mode : Chosen → Mode
-chosen_mode (Fits mode) = mode
-chosen_mode Unfit = Plain
+abbrev pub chosen_mode : Option Mode → Mode
+chosen_mode (Some mode) = mode
+chosen_mode None = Plain
 
 -- 9: the buffer has not the words of n x m entries
 abbrev pub table_length_case : ℕ → ℕ → ℕ → List ℕ → Case
@@ -55,7 +51,7 @@ table_length_case which n m s = due_unless (eqb (length s) (n * (m * entry_words
 
 -- 9's check, where n is at most 16 and m at most 32; else passed, since 3 is told
 abbrev pub table_length_measured : ℕ → ℕ → ℕ → List ℕ → Check
-table_length_measured which n m s = cond (leb n most_nodes && leb m most_destinations) (table_length_case which n m s).check Passed
+table_length_measured which n m s = cond (leb n most_nodes && leb m most_destinations) (table_length_case which n m s).check (Ok tt)
 
 -- 10's check, where the mode needs law C
 abbrev pub law_c_check : Mode → List Component → Check

@@ -10,8 +10,6 @@ use lib.Dec.{leb, eqb}
 use lib.ListN.{length, get_or, take, drop}
 use lib.Seq.{drop-cons}
 use Rattle.weights.specs.declared.Places.{Places}
-use Rattle.weights.specs.declared.Read.{Read}
-use Rattle.weights.specs.declared.Read.TheVariants.{Good, Malformed}
 use Rattle.weights.specs.declared.Weight as declared
 use Rattle.weights.specs.Sizes.{places, weight_words, entry_words, ones}
 use Rattle.weights.specs.Weights.{Weight, none, route}
@@ -24,6 +22,7 @@ use Rattle.modes.specs.declared.Mode.{Mode}
 use Rattle.modes.specs.Entries.{empty, mapped, largest_t}
 use Rattle.tables.specs.Tables.{EntryReading, good_entry, bad_entry, reads_route, reading_entry, entry_at, table_place, table_in}
 use Rattle.tables.specs.Parts.{route_read}
+use Rattle.std.specs.Prelude.{Option, Some, None}
 
 -- ---- five words
 
@@ -79,19 +78,19 @@ module _ (mode : Mode) (cap : ℕ) (p : Places) where
   read_ill : (a b c d t : ℕ) → reading cap (places_of p) (a ∷ b ∷ c ∷ d ∷ []) ≡ malformed → reading_entry mode cap (places_of p) (a ∷ b ∷ c ∷ d ∷ t ∷ []) ≡ bad_entry
   read_ill a b c d t e = rw (five_ones a b c d t) (ill mode t (a ∷ b ∷ c ∷ d ∷ []) (all_are ones (a ∷ b ∷ c ∷ d ∷ [])) (fits cap (places_of p) (a ∷ b ∷ c ∷ d ∷ [])) e)
 
-  module _ (s : List ℕ) (at q : ℕ) (room : at + entry_words ≤ length s) (e : q ≡ at) (r : Read) (h : read_of r ≡ reading cap (places_of p) (take weight_words (drop q s))) where
+  module _ (s : List ℕ) (at q : ℕ) (room : at + entry_words ≤ length s) (e : q ≡ at) (r : (Option declared.Weight)) (h : read_of r ≡ reading cap (places_of p) (take weight_words (drop q s))) where
     there : read_of r ≡ reading cap (places_of p) (get_or s at 0 ∷ get_or s (at + 1) 0 ∷ get_or s (at + 2) 0 ∷ get_or s (at + 3) 0 ∷ [])
     there = h ∙ ap (λ (k : ℕ). reading cap (places_of p) (take weight_words (drop k s))) e ∙ ap (reading cap (places_of p)) (four_words_lem s at (omega arith))
 
     -- the code read a weight, and t after it
-    pub entry_well : (w : declared.Weight) → r ≡ Good w → reading_entry mode cap (places_of p) (entry_at s at) ≡ route_read mode (weight_of w) (get_or s (q + 4) 0)
+    pub entry_well : (w : declared.Weight) → r ≡ Some w → reading_entry mode cap (places_of p) (entry_at s at) ≡ route_read mode (weight_of w) (get_or s (q + 4) 0)
     entry_well w g =
         ap (reading_entry mode cap (places_of p)) (five_words s at room)
         ∙ read_well (get_or s at 0) (get_or s (at + 1) 0) (get_or s (at + 2) 0) (get_or s (at + 3) 0) (get_or s (at + 4) 0) (weight_of w) (sym there ∙ ap read_of g)
         ∙ ap (λ (k : ℕ). route_read mode (weight_of w) (get_or s (k + 4) 0)) (sym e)
 
     -- the code read no weight
-    pub entry_ill : r ≡ Malformed → reading_entry mode cap (places_of p) (entry_at s at) ≡ bad_entry
+    pub entry_ill : r ≡ None → reading_entry mode cap (places_of p) (entry_at s at) ≡ bad_entry
     entry_ill g =
         ap (reading_entry mode cap (places_of p)) (five_words s at room)
         ∙ read_ill (get_or s at 0) (get_or s (at + 1) 0) (get_or s (at + 2) 0) (get_or s (at + 3) 0) (get_or s (at + 4) 0) (sym there ∙ ap read_of g)

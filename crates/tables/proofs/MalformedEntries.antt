@@ -7,7 +7,6 @@ use mathlib.Core.Logic.{◌↔◌}
 use native.Mathlib.Nat.{mul-le-mul_right, mul_assoc, div-add-mod'}
 use native.Mathlib.Omega.{arith}
 use Rattle.refusals.specs.declared.Refusal.TheVariants.{Value}
-use Rattle.refusals.specs.declared.Check.TheVariants.{Passed, Refused}
 use Rattle.weights.specs.declared.Component.{Component}
 use Rattle.weights.specs.Sizes.{entry_words}
 use Rattle.matrices.proofs.Malformed.{passes_all, all_passes, First, refuses_first, first_refuses}
@@ -17,6 +16,7 @@ use Rattle.tables.proofs.Rooms.{Counted, counted}
 use Rattle.refusals.proofs.Cases.{Exact}
 use Rattle.refusals.specs.Cases.{DueIn}
 use Rattle.refusals.specs.declared.Refusal.{Refusal}
+use Rattle.std.specs.Prelude.{Ok, Err}
 
 -- entry (i, d) is entry i * m + d of the buffer
 place_is : (m i d : ℕ) → (0 + (i * m + d)) * entry_words ≡ table_place m i d
@@ -33,7 +33,7 @@ module _ (which : ℕ) (mode : Mode) (cap : ℕ) (cs : List Component) (n m : �
   test = well_formed_entry mode cap cs s
 
   -- it refuses exactly at the first malformed entry
-  table_refuses : (r : Refusal) → ((table_case which mode cap cs n m s).check ≡ Refused r) ↔ DueIn (table_case which mode cap cs n m s) r
+  table_refuses : (r : Refusal) → ((table_case which mode cap cs n m s).check ≡ Err r) ↔ DueIn (table_case which mode cap cs n m s) r
   table_refuses r = (λ e. at_first_lem (refuses_first test entry_words which (n * m) 0 r e), λ (p, q, f). first_refuses test entry_words which (n * m) 0 r (first_at p q f))
     where
       first_at : (p : ℕ) → r ≡ Value which p → AtFirstMalformedEntry mode cap cs n m s p → First test entry_words which 0 (n * m) r
@@ -69,16 +69,16 @@ module _ (which : ℕ) (mode : Mode) (cap : ℕ) (cs : List Component) (n m : �
 
   module _ (sized : Sized n m s) where
     -- what passes is well-formed
-    pub check_formed : table_check which mode cap cs n m s ≡ Passed → FormedTable mode cap cs n m s
+    pub check_formed : table_check which mode cap cs n m s ≡ Ok tt → FormedTable mode cap cs n m s
     check_formed e = record {
       sized = sized;
       reads = λ i d hi hd. subst (λ (k : ℕ). test k ≡ true) (place_is m i d) (passes_all test entry_words which (n * m) 0 e (i * m + d) (entry_below n m i d hi hd));
     }
 
     -- .. and back
-    pub formed_check : FormedTable mode cap cs n m s → table_check which mode cap cs n m s ≡ Passed
+    pub formed_check : FormedTable mode cap cs n m s → table_check which mode cap cs n m s ≡ Ok tt
     formed_check f = all_passes test entry_words which (n * m) 0
         (λ e h. let g : Counted n m e = counted n m e h in subst (λ (k : ℕ). test k ≡ true) (g.same ∙ sym (zero_more e)) (f.reads (e / m) (e % m) g.node g.destination))
 
-    pub check_exactly : (table_check which mode cap cs n m s ≡ Passed) ↔ FormedTable mode cap cs n m s
+    pub check_exactly : (table_check which mode cap cs n m s ≡ Ok tt) ↔ FormedTable mode cap cs n m s
     check_exactly = (check_formed, formed_check)

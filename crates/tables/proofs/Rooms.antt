@@ -11,10 +11,9 @@ use Rattle.weights.specs.Sizes.{entry_words}
 use Rattle.matrices.proofs.Blocks.{block_room}
 use Rattle.modes.specs.declared.Mode.{Mode}
 use Rattle.modes.specs.declared.Entry as declared
-use Rattle.tables.specs.declared.EntryRead.{EntryRead}
-use Rattle.tables.specs.declared.EntryRead.TheVariants.{Good, Malformed}
 use Rattle.tables.specs.Tables.{reading_entry, entry_read_of, is_good_entry, table_place, entry_at, well_formed_entry, Sized}
 use Rattle.tables.specs.Parts.{InTable}
+use Rattle.std.specs.Prelude.{Option, Some, None}
 
 -- the buffer is small
 pub table_small : (n m : ℕ) (s : List ℕ) → Sized n m s → length s ≤ 2560
@@ -60,12 +59,12 @@ counted n m e h = record {
     positive = go m h
 
 -- what the code reads is the test
-module _ (mode : Mode) (cap : ℕ) (cs : List Component) (s : List ℕ) (n m e : ℕ) (h : e < n * m) (r : EntryRead) (q : entry_read_of r ≡ reading_entry mode cap cs (entry_at s (table_place m (e / m) (e % m)))) where
+module _ (mode : Mode) (cap : ℕ) (cs : List Component) (s : List ℕ) (n m e : ℕ) (h : e < n * m) (r : (Option declared.Entry)) (q : entry_read_of r ≡ reading_entry mode cap cs (entry_at s (table_place m (e / m) (e % m)))) where
   told : is_good_entry (entry_read_of r) ≡ well_formed_entry mode cap cs s (e * entry_words)
   told = ap is_good_entry q ∙ ap (well_formed_entry mode cap cs s) (counted n m e h).same
 
-  pub entry_bad : r ≡ Malformed → well_formed_entry mode cap cs s (e * entry_words) ≡ false
-  entry_bad g = sym told ∙ ap (λ (x : EntryRead). is_good_entry (entry_read_of x)) g
+  pub entry_bad : r ≡ None → well_formed_entry mode cap cs s (e * entry_words) ≡ false
+  entry_bad g = sym told ∙ ap (λ (x : (Option declared.Entry)). is_good_entry (entry_read_of x)) g
 
-  pub entry_good : (x : declared.Entry) → r ≡ Good x → well_formed_entry mode cap cs s (e * entry_words) ≡ true
-  entry_good x g = sym told ∙ ap (λ (x : EntryRead). is_good_entry (entry_read_of x)) g
+  pub entry_good : (x : declared.Entry) → r ≡ Some x → well_formed_entry mode cap cs s (e * entry_words) ≡ true
+  entry_good x g = sym told ∙ ap (λ (x : (Option declared.Entry)). is_good_entry (entry_read_of x)) g

@@ -1,18 +1,17 @@
 -- Tables in flat buffers of words, by rows (01, "Numbers of the network"), and refusal 6 on one.
 -- To be believed: all but `entry_read_of`, which joins the code to the rest.
-use Rattle.std.specs.Prelude.{ℕ, ◌+◌, ◌*◌, ◌≤◌, ◌<◌, ◌≡◌, Bool, true, false, cond, ◌&&◌, List, [], ◌∷◌, ◌++◌, leb, length, get_or, take, drop, replicate}
+use Rattle.std.specs.Prelude.{ℕ, ◌+◌, ◌*◌, ◌≤◌, ◌<◌, ◌≡◌, Bool, true, false, cond, ◌&&◌, List, [], ◌∷◌, ◌++◌, leb, length, get_or, take, drop, replicate, Option, Some, None}
 use Rattle.refusals.specs.declared.Refusal.TheVariants.{Value}
-use Rattle.refusals.specs.declared.Check.{Check}
 use Rattle.weights.specs.declared.Component.{Component}
 use Rattle.weights.specs.Sizes.{weight_words, entry_words, ones}
 use Rattle.weights.specs.Weights.{none, route}
 use Rattle.weights.specs.Words.{filled, all_are, Reading, good, malformed, reading}
 use Rattle.matrices.specs.Buffers.{blocks, first_malformed}
 use Rattle.modes.specs.declared.Mode.{Mode}
-use Rattle.tables.specs.declared.EntryRead.{EntryRead}
-use Rattle.tables.specs.declared.EntryRead.TheVariants.{Good, Malformed}
 use Rattle.modes.specs.Entries.{Entry, empty, mapped, entry_of, largest_t}
 use Rattle.refusals.specs.Cases.{Case}
+use Rattle.refusals.specs.Checks.{Check}
+use Rattle.modes.specs.declared.Entry as declared
 
 -- ---- the words of an entry
 
@@ -50,9 +49,9 @@ is_good_entry (good_entry e) = true
 is_good_entry bad_entry = false
 
 -- what the code's answer of reading says
-abbrev pub entry_read_of : EntryRead → EntryReading
-entry_read_of (Good e) = good_entry (entry_of e)
-entry_read_of Malformed = bad_entry
+abbrev pub entry_read_of : Option declared.Entry → EntryReading
+entry_read_of (Some e) = good_entry (entry_of e)
+entry_read_of None = bad_entry
 
 -- the entry, of k values, that words stand for where they are not malformed
 abbrev pub decoded_entry : ℕ → List ℕ → Entry

@@ -9,10 +9,9 @@ use borrow.Author.Tests.{le-leb, lt-leb, leb-true}
 use lib.ListN.{length, drop}
 use Rattle.refusals.specs.declared.Refusal.{Refusal}
 use Rattle.refusals.specs.declared.Refusal.TheVariants.{Length}
-use Rattle.refusals.specs.declared.Check.{Check}
-use Rattle.refusals.specs.declared.Check.TheVariants.{Passed, Refused}
 use Rattle.refusals.specs.Told.{told, done}
-use Rattle.refusals.specs.Checks.{or_else, if_passed, check_told}
+use Rattle.refusals.specs.Checks.{if_passed, answer_told, Check}
+use Rattle.std.specs.Result.{result_and}
 use Rattle.refusals.proofs.OneToOne.{told_one, told_not_done}
 use Rattle.refusals.proofs.First.{first_passes, unless_passes, stops, goes_on}
 use Rattle.refusals.proofs.Cases.{check_append}
@@ -24,7 +23,6 @@ use Rattle.laws.specs.declared.Law.{Law}
 use Rattle.laws.specs.declared.LawAnswer.TheVariants.{Laws, Refused as NoLaws}
 use Rattle.laws.specs.Report.{Report, report_of, report, law_of, answer_row}
 use Rattle.guards.proofs.Singles.{nodes_passed}
-use Rattle.hops.specs.declared.HopAnswer.TheVariants.{Hop, Refused as HopRefused}
 use Rattle.hops.specs.Calls.{HopRow, hop_row, hop_said, hop_cases}
 use Rattle.hops.proofs.Exact.{hop_given}
 use Rattle.handover.specs.Calls.{handover_check, is_best, row_part, lent_row}
@@ -40,6 +38,7 @@ use Rattle.refusals.specs.Cases.{checks_of}
 use Rattle.handover.proofs.Answers.{lender_row_by}
 use Rattle.guards.specs.OnNetwork.{OnNetwork}
 use Rattle.files.specs.Cases.{short_case}
+use Rattle.std.specs.Prelude.{Ok, Err, Some}
 
 -- ---- any call
 
@@ -49,19 +48,19 @@ said reply says p e q = p ∙ ap (λ z. reply (says z)) (sym e) ∙ ap reply q
 
 -- ---- room
 
-pub no_room : (which words : ℕ) (s : List ℕ) → length s < words → (short_case which words s).check ≡ Refused (Length which 0)
+pub no_room : (which words : ℕ) (s : List ℕ) → length s < words → (short_case which words s).check ≡ Err (Length which 0)
 no_room which words s h = rw (lt-leb words (length s) h)
 
-pub room : (which words : ℕ) (s : List ℕ) → words ≤ length s → (short_case which words s).check ≡ Passed
+pub room : (which words : ℕ) (s : List ℕ) → words ≤ length s → (short_case which words s).check ≡ Ok tt
 room which words s h = rw (le-leb words (length s) h)
 
-room_passed : (which words : ℕ) (s : List ℕ) → (short_case which words s).check ≡ Passed → words ≤ length s
+room_passed : (which words : ℕ) (s : List ℕ) → (short_case which words s).check ≡ Ok tt → words ≤ length s
 room_passed which words s e = leb-true words (length s) (unless_passes _ _ e)
 
 -- ---- read
 
 module _ (file arcs mapping problem : List ℕ) where
-  pub problem_room : room_check arcs mapping problem ≡ Passed → problem_words ≤ length problem
+  pub problem_room : room_check arcs mapping problem ≡ Ok tt → problem_words ≤ length problem
   problem_room e = room_passed 6 problem_words problem (first_passes (checks_of (room_cases arcs mapping problem)) e).1.1.0
 
   -- the four promises of `tronglephu_read`
@@ -72,20 +71,20 @@ module _ (file arcs mapping problem : List ℕ) where
       × (mapping' ≡ mapping_left file arcs mapping problem)
       × (problem' ≡ problem_left file arcs mapping problem)
 
-  pub read_short : (x : Refusal) → room_check arcs mapping problem ≡ Refused x → Reads (reply_of (told x) 0) arcs mapping problem
+  pub read_short : (x : Refusal) → room_check arcs mapping problem ≡ Err x → Reads (reply_of (told x) 0) arcs mapping problem
   read_short x e = (
-    ap (λ (c : Check). reply_of (if_passed c (file_row file arcs mapping).told (check_told c)) 0) (sym e),
+    ap (λ (c : Check). reply_of (if_passed c (file_row file arcs mapping).told (answer_told c)) 0) (sym e),
     ap (λ (c : Check). if_passed c (arcs_after file arcs mapping) arcs) (sym e),
     ap (λ (c : Check). if_passed c (mapping_after file arcs mapping) mapping) (sym e),
     ap (λ (c : Check). if_passed c (problem_after (file_row file arcs mapping) problem) problem) (sym e),
   )
 
-  module _ (e : room_check arcs mapping problem ≡ Passed) (arcs' mapping' : List ℕ) where
+  module _ (e : room_check arcs mapping problem ≡ Ok tt) (arcs' mapping' : List ℕ) where
     -- once there is room, the answer is the file's
     by_row : (w : Row) (problem' : List ℕ) → w ≡ file_row file arcs mapping → arcs' ≡ arcs_after file arcs mapping → mapping' ≡ mapping_after file arcs mapping
         → problem' ≡ problem_after w problem → Reads (reply_of w.told 0) arcs' mapping' problem'
     by_row w problem' f a m p = (
-      ap (λ (w : Row). reply_of w.told 0) f ∙ ap (λ (c : Check). reply_of (if_passed c (file_row file arcs mapping).told (check_told c)) 0) (sym e),
+      ap (λ (w : Row). reply_of w.told 0) f ∙ ap (λ (c : Check). reply_of (if_passed c (file_row file arcs mapping).told (answer_told c)) 0) (sym e),
       a ∙ ap (λ (c : Check). if_passed c (arcs_after file arcs mapping) arcs) (sym e),
       m ∙ ap (λ (c : Check). if_passed c (mapping_after file arcs mapping) mapping) (sym e),
       p ∙ ap (λ (w : Row). problem_after w problem) f ∙ ap (λ (c : Check). if_passed c (problem_after (file_row file arcs mapping) problem) problem) (sym e),
@@ -103,54 +102,54 @@ module _ (file arcs mapping problem : List ℕ) where
 module _ (l : Language) (s : List ℕ) where
   -- the reply and the report, by what the checks and the law report give
   abbrev reply_by : Check → Report → Reply
-  reply_by c w = reply_of (check_told c) (if_passed c (held_laws w.law_d w.law_u w.law_c) 0)
+  reply_by c w = reply_of (answer_told c) (if_passed c (held_laws w.law_d w.law_u w.law_c) 0)
 
   abbrev left_by : Check → Report → List ℕ
   left_by c w = if_passed c (laws_words w.law_d w.law_u w.law_c ++ drop report_words s) s
 
-  laws_order : report_check l s ≡ or_else (language_check l) (or_else (short_case 6 report_words s).check Passed)
+  laws_order : report_check l s ≡ result_and (language_check l) (result_and (short_case 6 report_words s).check (Ok tt))
   laws_order = check_append (language_cases l) (short_case 6 report_words s ∷ [])
 
   -- the two promises of `tronglephu_laws`
   abbrev pub Reports : Reply → List ℕ → Type 0
   Reports x s' = (x ≡ laws_reply l s) × (s' ≡ report_left l s)
 
-  by_check : (r : Refusal) → report_check l s ≡ Refused r → Reports (reply_of (told r) 0) s
+  by_check : (r : Refusal) → report_check l s ≡ Err r → Reports (reply_of (told r) 0) s
   by_check r e = (ap (λ (c : Check). reply_by c (report l)) (sym e), ap (λ (c : Check). left_by c (report l)) (sym e))
 
   pub laws_refused : (r : Refusal) → answer_row (NoLaws r) ≡ report l → Reports (reply_of (told r) 0) s
-  laws_refused r e = by_check r (laws_order ∙ stops (or_else (short_case 6 report_words s).check Passed) (go (language_check l) (components_of l) e))
+  laws_refused r e = by_check r (laws_order ∙ stops (result_and (short_case 6 report_words s).check (Ok tt)) (go (language_check l) (components_of l) e))
     where
-      go : (c : Check) (cs : List Component) → answer_row (NoLaws r) ≡ report_of c cs → c ≡ Refused r
-      go Passed cs e = absurd (told_not_done r (ap (λ (w : Report). w.told) e))
-      go (Refused x) cs e = ap Refused (sym (told_one r x (ap (λ (w : Report). w.told) e)))
+      go : (c : Check) (cs : List Component) → answer_row (NoLaws r) ≡ report_of c cs → c ≡ Err r
+      go (Ok _) cs e = absurd (told_not_done r (ap (λ (w : Report). w.told) e))
+      go (Err x) cs e = ap Err (sym (told_one r x (ap (λ (w : Report). w.told) e)))
 
   module _ (d u c : Law) (e : answer_row (Laws d u c) ≡ report l) where
-    passes : language_check l ≡ Passed
+    passes : language_check l ≡ Ok tt
     passes = go (language_check l) (components_of l) e
       where
-        go : (k : Check) (cs : List Component) → answer_row (Laws d u c) ≡ report_of k cs → k ≡ Passed
-        go Passed cs e = refl
-        go (Refused x) cs e = absurd (told_not_done x (sym (ap (λ (w : Report). w.told) e)))
+        go : (k : Check) (cs : List Component) → answer_row (Laws d u c) ≡ report_of k cs → k ≡ Ok tt
+        go (Ok _) cs e = refl
+        go (Err x) cs e = absurd (told_not_done x (sym (ap (λ (w : Report). w.told) e)))
 
     pub report_short : length s < report_words → Reports (reply_of (told (Length 6 0)) 0) s
-    report_short h = by_check (Length 6 0) (laws_order ∙ goes_on passes (stops Passed (no_room 6 report_words s h)))
+    report_short h = by_check (Length 6 0) (laws_order ∙ goes_on passes (stops (Ok tt) (no_room 6 report_words s h)))
 
     pub report_written : (s' : List ℕ) → report_words ≤ length s → s' ≡ laws_words (law_of d) (law_of u) (law_of c) ++ drop report_words s
         → Reports (reply_of done (held_laws (law_of d) (law_of u) (law_of c))) s'
     report_written s' h f =
-        let k : report_check l s ≡ Passed = laws_order ∙ goes_on passes (goes_on (room 6 report_words s h) refl) in (
-          ap (reply_by Passed) e ∙ ap (λ (c : Check). reply_by c (report l)) (sym k),
-          f ∙ ap (left_by Passed) e ∙ ap (λ (c : Check). left_by c (report l)) (sym k),
+        let k : report_check l s ≡ Ok tt = laws_order ∙ goes_on passes (goes_on (room 6 report_words s h) refl) in (
+          ap (reply_by (Ok tt)) e ∙ ap (λ (c : Check). reply_by c (report l)) (sym k),
+          f ∙ ap (left_by (Ok tt)) e ∙ ap (λ (c : Check). left_by c (report l)) (sym k),
         )
 
 -- ---- next hop
 
-pub hop_refused : (r : Refusal) → reply_of (told r) 0 ≡ hop_reply_of (hop_said (HopRefused r))
+pub hop_refused : (r : Refusal) → reply_of (told r) 0 ≡ hop_reply_of (hop_said (Err r))
 hop_refused r = rw (refusal_not_done r)
 
 -- a next hop is a node, below 16
-pub hop_small : (N : OnNetwork) (r : List ℕ) (i j : ℕ) (k : Node) → hop_said (Hop k) ≡ hop_row N r i j → k.0 < 16
+pub hop_small : (N : OnNetwork) (r : List ℕ) (i j : ℕ) (k : Node) → hop_said (Ok (Some k)) ≡ hop_row N r i j → k.0 < 16
 hop_small N r i j k e =
     let h = (hop_given N r i j k.0).0 (sym (ap (λ (w : HopRow). w.node) e)) in
     let few = nodes_passed N.n (first_passes (checks_of (hop_cases N r i j)) h.0).0 in
@@ -164,6 +163,6 @@ pub row_lent : (N : OnNetwork) (standing newer : List ℕ) (i : ℕ) → lent_ro
 row_lent N standing newer i = go (handover_check N standing newer i) (is_best N newer)
   where
     go : (c : Check) (b : Bool) → if_passed c (cond b (row_part N.n i newer) (row_part N.n i standing)) [] ≡ row_lent_by (lender_row_by c b).buffer N.n i standing newer
-    go Passed true = refl
-    go Passed false = refl
-    go (Refused x) b = refl
+    go (Ok _) true = refl
+    go (Ok _) false = refl
+    go (Err x) b = refl

@@ -3,8 +3,7 @@
 -- To be believed: all of it.
 use Rattle.std.specs.Prelude.{ℕ, cond, List, [], ◌∷◌, ◌++◌, eqb, drop}
 use Rattle.std.proofs.Math.Option.{Option, some, none as nothing}
-use Rattle.refusals.specs.declared.Check.{Check}
-use Rattle.refusals.specs.Checks.{check_told, if_passed}
+use Rattle.refusals.specs.Checks.{answer_told, if_passed, Check}
 use Rattle.refusals.specs.declared.Told.{Told}
 use Rattle.refusals.specs.Cases.{Case, check_of}
 use Rattle.weights.specs.declared.Language.{Language}
@@ -38,7 +37,7 @@ read_reply_cases file arcs mapping problem = room_cases arcs mapping problem ++ 
 
 -- a buffer that is too short, else what the reader tells
 abbrev pub read_told : List ℕ → List ℕ → List ℕ → List ℕ → Told
-read_told file arcs mapping problem = if_passed (room_check arcs mapping problem) (file_row file arcs mapping).told (check_told (room_check arcs mapping problem))
+read_told file arcs mapping problem = if_passed (room_check arcs mapping problem) (file_row file arcs mapping).told (answer_told (room_check arcs mapping problem))
 
 -- the answer of `tronglephu_read`
 abbrev pub read_reply : List ℕ → List ℕ → List ℕ → List ℕ → Reply
@@ -72,7 +71,7 @@ report_check l s = check_of (report_cases l s)
 
 -- the answer of `tronglephu_laws`: a refusal, else which laws are held
 abbrev pub laws_reply : Language → List ℕ → Reply
-laws_reply l s = reply_of (check_told (report_check l s)) (if_passed (report_check l s) (held_laws (report l).law_d (report l).law_u (report l).law_c) 0)
+laws_reply l s = reply_of (answer_told (report_check l s)) (if_passed (report_check l s) (held_laws (report l).law_d (report l).law_u (report l).law_c) 0)
 
 -- what the report holds after it: the words of the three laws, and what the buffer held after them
 abbrev pub report_left : Language → List ℕ → List ℕ
@@ -82,7 +81,7 @@ report_left l s = if_passed (report_check l s) (laws_words (report l).law_d (rep
 
 -- the answer of `tronglephu_fresh`
 abbrev pub fresh_reply : Language → ℕ → List ℕ → Reply
-fresh_reply l n r = reply_of (check_told (fresh_check l n r)) 0
+fresh_reply l n r = reply_of (answer_told (fresh_check l n r)) 0
 
 -- the steps done, on 11 too
 abbrev pub steps_reply_of : StepsRow → Reply
@@ -104,7 +103,7 @@ equation_reply N r = equation_reply_of (equation_row N r)
 
 -- the answer of `tronglephu_forward`
 abbrev pub forward_reply : OnTables → List ℕ → Reply
-forward_reply T f = reply_of (check_told (forward_check T f)) 0
+forward_reply T f = reply_of (answer_told (forward_check T f)) 0
 
 -- the node, or 255 for none
 abbrev pub node_or_none : Option ℕ → ℕ

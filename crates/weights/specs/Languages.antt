@@ -1,18 +1,16 @@
 -- What the code's languages mean, and the checks of a language (refusals 5 and 4).
 -- To be believed: all but `limits_from`, `padded`, `places_of` and `CheckSays`, which join the code to the rest.
-use Rattle.std.specs.Prelude.{ℕ, zero, suc, ◌≤◌, ◌≡◌, Bool, true, ◌&&◌, List, [], ◌∷◌, leb, take}
+use Rattle.std.specs.Prelude.{ℕ, zero, suc, ◌≤◌, ◌≡◌, Bool, true, ◌&&◌, List, [], ◌∷◌, leb, take, Result, Ok, Err}
 use Rattle.refusals.specs.declared.Refusal.TheVariants.{BadComponent, BadCount}
-use Rattle.refusals.specs.declared.Check.{Check}
-use Rattle.refusals.specs.declared.Check.TheVariants.{Passed, Refused}
 use Rattle.refusals.specs.Cases.{Case, due_unless, first_from, due_at_first, check_of}
 use Rattle.weights.specs.declared.Component.{Component}
 use Rattle.weights.specs.declared.Component.TheVariants.{Dist, Width, Class, Gain}
 use Rattle.weights.specs.declared.Language.{Language}
-use Rattle.weights.specs.declared.Checked.{Checked}
-use Rattle.weights.specs.declared.Checked.TheVariants.{Sound, Unsound}
 use Rattle.weights.specs.declared.Places.{Places}
 use Rattle.weights.specs.Sizes.{places}
 use Rattle.weights.specs.Weights.{SoundLimit}
+use Rattle.refusals.specs.Checks.{Check}
+use Rattle.refusals.specs.declared.Refusal.{Refusal}
 
 -- ---- a language in calls
 
@@ -78,6 +76,6 @@ abbrev pub language_check : Language → Check
 language_check l = check_of (language_cases l)
 
 -- the language passes, with its places, or is refused
-abbrev pub CheckSays : Language → Checked → Type 0
-CheckSays l (Sound p) = (language_check l ≡ Passed) × (places_of p ≡ padded places (components_of l)) × SmallLimits 65535 (places_of p)
-CheckSays l (Unsound r) = language_check l ≡ Refused r
+abbrev pub CheckSays : Language → Result Places Refusal → Type 0
+CheckSays l (Ok p) = (language_check l ≡ Ok tt) × (places_of p ≡ padded places (components_of l)) × SmallLimits 65535 (places_of p)
+CheckSays l (Err r) = language_check l ≡ Err r

@@ -1,13 +1,12 @@
 -- A weight in a buffer: its words, and what words stand for (01, "Weights").
 -- To be believed: all but `read_of`, which joins the code to the rest.
-use Rattle.std.specs.Prelude.{ℕ, zero, suc, Bool, true, false, cond, ◌&&◌, List, [], ◌∷◌, leb, eqb, length, take, replicate}
+use Rattle.std.specs.Prelude.{ℕ, zero, suc, Bool, true, false, cond, ◌&&◌, List, [], ◌∷◌, leb, eqb, length, take, replicate, Option, Some, None}
 use Rattle.weights.specs.declared.Component.{Component}
 use Rattle.weights.specs.declared.Component.TheVariants.{Dist, Width, Class, Gain}
-use Rattle.weights.specs.declared.Read.{Read}
-use Rattle.weights.specs.declared.Read.TheVariants.{Good, Malformed}
 use Rattle.weights.specs.Sizes.{weight_words, ones}
 use Rattle.weights.specs.Weights.{Weight, none, route}
 use Rattle.weights.specs.Values.{weight_of}
+use Rattle.weights.specs.declared.Weight as declared
 
 -- the values, and 0 in each word after them, n words in all
 abbrev pub filled : ℕ → List ℕ → List ℕ
@@ -53,9 +52,9 @@ is_good (good w) = true
 is_good malformed = false
 
 -- what the code's answer of reading says
-abbrev pub read_of : Read → Reading
-read_of (Good w) = good (weight_of w)
-read_of Malformed = malformed
+abbrev pub read_of : Option declared.Weight → Reading
+read_of (Some w) = good (weight_of w)
+read_of None = malformed
 
 -- the weight, of k values, that words stand for where they are not malformed
 abbrev pub decoded : ℕ → List ℕ → Weight

@@ -11,9 +11,10 @@ fn verdict(better: bool) -> Comparison
     ensures { result ≡ cond better Better Worse }
 {
     if better {
-        return Comparison::Better;
+        Comparison::Better
+    } else {
+        Comparison::Worse
     }
-    Comparison::Worse
 }
 
 pub fn better_value(c: Component, x: u32, y: u32) -> bool
@@ -31,24 +32,14 @@ pub fn better_value(c: Component, x: u32, y: u32) -> bool
 fn compare_value(c: Component, x: u32, y: u32) -> Comparison
     ensures { result ≡ cond (better_value c x y) Better Worse }
 {
-    let better = better_value(c, x, y);
-    verdict(better)
+    verdict(better_value(c, x, y))
 }
 
 // The weight is a route.
 fn is_route(w: Weight) -> bool
     ensures { result ≡ is_route (weight_of w) }
 {
-    let Weight::Route {
-        first: _,
-        second: _,
-        third: _,
-        fourth: _,
-    } = w
-    else {
-        return false;
-    };
-    true
+    matches!(w, Weight::Route { .. })
 }
 
 // No route against a weight.
@@ -56,9 +47,10 @@ fn none_against(p: Places, y: Weight) -> Comparison
     ensures { result ≡ compared (places_of p) none (weight_of y) }
 {
     if is_route(y) {
-        return Comparison::Worse;
+        Comparison::Worse
+    } else {
+        Comparison::Equal
     }
-    Comparison::Equal
 }
 
 // Better, equal or worse.
@@ -83,21 +75,17 @@ pub fn compare(p: Places, x: Weight, y: Weight) -> Comparison
     else {
         return Comparison::Better;
     };
-    let one = p.first;
-    let two = p.second;
-    let three = p.third;
-    let four = p.fourth;
     if a != e {
-        return compare_value(one, a, e);
+        return compare_value(p.first, a, e);
     }
     if b != f {
-        return compare_value(two, b, f);
+        return compare_value(p.second, b, f);
     }
     if c != g {
-        return compare_value(three, c, g);
+        return compare_value(p.third, c, g);
     }
     if d != h {
-        return compare_value(four, d, h);
+        return compare_value(p.fourth, d, h);
     }
     Comparison::Equal
 }
@@ -106,58 +94,19 @@ pub fn compare(p: Places, x: Weight, y: Weight) -> Comparison
 pub fn better(p: Places, x: Weight, y: Weight) -> bool
     ensures { result ≡ better (places_of p) (weight_of x) (weight_of y) }
 {
-    let c = compare(p, x, y);
-    match c {
-        Comparison::Better => true,
-        Comparison::Equal => false,
-        Comparison::Worse => false,
-    }
+    compare(p, x, y) == Comparison::Better
 }
 
 // The better of two weights.
 pub fn better_of(p: Places, x: Weight, y: Weight) -> Weight
     ensures { weight_of result ≡ better_of (places_of p) (weight_of x) (weight_of y) }
 {
-    if better(p, y, x) {
-        return y;
-    }
-    x
+    if better(p, y, x) { y } else { x }
 }
 
 // Two weights are the same.
 pub fn same(x: Weight, y: Weight) -> bool
     ensures { result ≡ same (weight_of x) (weight_of y) }
 {
-    let Weight::Route {
-        first: a,
-        second: b,
-        third: c,
-        fourth: d,
-    } = x
-    else {
-        let other = is_route(y);
-        return !other;
-    };
-    let Weight::Route {
-        first: e,
-        second: f,
-        third: g,
-        fourth: h,
-    } = y
-    else {
-        return false;
-    };
-    if a != e {
-        return false;
-    }
-    if b != f {
-        return false;
-    }
-    if c != g {
-        return false;
-    }
-    if d != h {
-        return false;
-    }
-    true
+    x == y
 }

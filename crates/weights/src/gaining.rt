@@ -11,34 +11,14 @@ pub fn loses(p: Places, w: Weight, x: Weight, y: Weight) -> bool
     requires { AtMost 2147483647 (weight_of x) × AtMost 2147483647 (weight_of y) }
     ensures { result ≡ loses (places_of p) (weight_of w) (weight_of x) (weight_of y) }
 {
-    let Weight::Route {
-        first: a,
-        second: _,
-        third: _,
-        fourth: _,
-    } = w
-    else {
+    let Weight::Route { first: a, .. } = w else {
         return false;
     };
-    let Weight::Route {
-        first: b,
-        second: _,
-        third: _,
-        fourth: _,
-    } = x
-    else {
+    let Weight::Route { first: b, .. } = x else {
         return false;
     };
-    let Weight::Route {
-        first: c,
-        second: _,
-        third: _,
-        fourth: _,
-    } = y
-    else {
+    let Weight::Route { first: c, .. } = y else {
         return false;
     };
-    let one = p.first;
-    let first = joining::join_value(one, b, c);
-    comparing::better_value(one, a, first)
+    comparing::better_value(p.first, a, joining::join_value(p.first, b, c))
 }

@@ -13,8 +13,8 @@ pub fn join_value(c: Component, x: u32, y: u32) -> u32
 {
     match c {
         Component::Dist => x + y,
-        Component::Width(_) => if x < y { x } else { y },
-        Component::Class(_) => if x < y { y } else { x },
+        Component::Width(_) => x.min(y),
+        Component::Class(_) => x.max(y),
         Component::Gain => x + y,
     }
 }
@@ -42,18 +42,10 @@ pub fn join(p: Places, x: Weight, y: Weight) -> Weight
     else {
         return Weight::NoRoute;
     };
-    let one = p.first;
-    let two = p.second;
-    let three = p.third;
-    let four = p.fourth;
-    let first = join_value(one, a, e);
-    let second = join_value(two, b, f);
-    let third = join_value(three, c, g);
-    let fourth = join_value(four, d, h);
     Weight::Route {
-        first,
-        second,
-        third,
-        fourth,
+        first: join_value(p.first, a, e),
+        second: join_value(p.second, b, f),
+        third: join_value(p.third, c, g),
+        fourth: join_value(p.fourth, d, h),
     }
 }

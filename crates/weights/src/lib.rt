@@ -5,8 +5,6 @@ pub mod comparing;
 pub mod gaining;
 pub mod joining;
 
-use refusals::Refusal;
-
 // The places of a language, and the words of a weight and of a table's entry.
 pub const PLACES: u32 = 4;
 
@@ -25,7 +23,7 @@ pub const ARC_SUM: u32 = 65535;
 pub const MATRIX_SUM: u32 = 983025;
 
 // A component is one of four kinds, two of which carry a limit.
-#[derive(Clone, Copy)]
+#[derive(Clone, Copy, Debug, PartialEq, Eq)]
 pub enum Component {
     Dist,
     Width(u16),
@@ -53,7 +51,7 @@ pub struct Places {
 }
 
 // A route has a value in each place.
-#[derive(Clone, Copy)]
+#[derive(Clone, Copy, Debug, PartialEq, Eq)]
 pub enum Weight {
     Route {
         first: u32,
@@ -64,23 +62,9 @@ pub enum Weight {
     NoRoute,
 }
 
-#[derive(Clone, Copy)]
+#[derive(Clone, Copy, Debug, PartialEq, Eq)]
 pub enum Comparison {
     Better,
     Equal,
     Worse,
-}
-
-// What the words of a weight stand for.
-#[derive(Clone, Copy)]
-pub enum Read {
-    Good(Weight),
-    Malformed,
-}
-
-// What the check of a language finds.
-#[derive(Clone, Copy)]
-pub enum Checked {
-    Sound(Places),
-    Unsound(Refusal),
 }

@@ -8,7 +8,7 @@ ghost use Rattle.weights.specs.Languages.{places_of};
 ghost use Rattle.weights.specs.Values.{weight_of};
 ghost use Rattle.weights.specs.Words.{words, all_are, in_range, fits, reading, read_of, decoded};
 
-use weights::{Component, ONES, Places, Read, Weight};
+use weights::{Component, ONES, Places, Weight};
 
 pub fn in_range(c: Component, cap: u32, v: u32) -> bool
     ensures { result ≡ in_range cap c v }
@@ -56,25 +56,25 @@ fn all_in_range(p: Places, cap: u32, a: u32, b: u32, c: u32, d: u32) -> bool
     false
 }
 
-fn read_words(p: Places, cap: u32, a: u32, b: u32, c: u32, d: u32) -> Read
+fn read_words(p: Places, cap: u32, a: u32, b: u32, c: u32, d: u32) -> Option<Weight>
     ensures { read_of result ≡ reading cap (places_of p) (a ∷ b ∷ c ∷ d ∷ []) }
 {
     if all_ones(a, b, c, d) {
-        return Read::Good(Weight::NoRoute);
+        return Some(Weight::NoRoute);
     }
     if all_in_range(p, cap, a, b, c, d) {
-        return Read::Good(Weight::Route {
+        return Some(Weight::Route {
             first: a,
             second: b,
             third: c,
             fourth: d,
         });
     }
-    Read::Malformed
+    None
 }
 
-// What the words from `at` on stand for, a sum being at most cap.
-pub fn read_at(p: Places, cap: u32, s: &[u32], at: usize) -> Read
+// The weight that the words from `at` on stand for, a sum being at most cap; none where they are malformed.
+pub fn read_at(p: Places, cap: u32, s: &[u32], at: usize) -> Option<Weight>
     requires { at + weight_words ≤ length s.now }
     ensures { read_of result ≡ reading cap (places_of p) (take weight_words (drop at s.now)) }
 {

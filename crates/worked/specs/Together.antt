@@ -1,6 +1,6 @@
 -- 01's "Proved together": P1 to P9, about the definitions alone.
 -- To be believed: all of it, beside 01's own lines. That it holds is the theorem `proved_together` (proofs/Proved).
-use Rattle.std.specs.Prelude.{ℕ, ◌+◌, ◌*◌, ◌<◌, ◌≡◌, List, [], ◌∷◌, length, replicate}
+use Rattle.std.specs.Prelude.{ℕ, ◌+◌, ◌*◌, ◌<◌, ◌≡◌, List, [], ◌∷◌, length, replicate, Some}
 use Rattle.refusals.specs.declared.Refusal.TheVariants.{NoSuch}
 use Rattle.refusals.specs.Told.{told, done}
 use Rattle.algebra.specs.Best.{Best}
@@ -13,7 +13,6 @@ use Rattle.weights.specs.Laws.{LawD, LawU, LawC, BreaksD, BreaksU}
 use Rattle.weights.specs.Languages.{components_of}
 use Rattle.matrices.specs.Steps.{Matrix}
 use Rattle.modes.specs.declared.Mode.TheVariants.{Hot}
-use Rattle.modes.specs.declared.Chosen.TheVariants.{Fits}
 use Rattle.modes.specs.Entries.{Entry, mapped, mode_of, mode_for}
 use Rattle.tables.specs.Tables.{table_in}
 use Rattle.routes.specs.Calls.{fresh_left, steps_row, StepsRow}
@@ -84,7 +83,7 @@ pub record ProvedTogether : Type 0 where
   -- (P6) the same file in hot mode, from its own bytes: F(0,0) is 2 with t 7
   pub P6 :
       (file_read (printed_file 2) ≡ Sound 9 (printed_head 2))
-      × (mode_for distance 1 2 ≡ Fits Hot)
+      × (mode_for distance 1 2 ≡ Some Hot)
       × (forwarded (language distance) (mode_of Hot distance) 3
       (reached (language distance) 3 (arcs_read (printed_file 2) 9 (printed_head 2)) (sweeps 3 2))
       (mapping_read (printed_file 2) 9 (printed_head 2)) 0 0

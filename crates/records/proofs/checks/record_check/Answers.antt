@@ -9,7 +9,7 @@ returns-then-file-end c = rw (lt-leb _ _ (rw c.record_length-size.ensures.0 at c
 pub returns-then-two-low : goal.returns-then-two-low
 unfolding record_check
 returns-then-two-low c = rw (
-  c.or_else.ensures,
+  c.result_and.ensures,
   c.ends_check-ends.ensures,
   c.ends_at.ensures,
   le-leb _ _ (rw c.record_length-size.ensures.0 at c.if-file-end.false),
@@ -19,7 +19,7 @@ returns-then-two-low c = rw (
 pub returns : goal.returns
 unfolding record_check
 returns c = rw (
-  c.or_else-2.ensures,
+  c.result_and-2.ensures,
   c.ends_check-ends.ensures,
   c.ends_at.ensures,
   c.values_check-values.ensures,

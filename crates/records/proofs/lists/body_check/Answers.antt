@@ -6,8 +6,8 @@ use Rattle.records.proofs.lists.body_check.Goals as goal
 pub returns-then-end-file : goal.returns-then-end-file
 unfolding body_check
 returns-then-end-file c = rw (
-  c.or_else-then-end-file.ensures,
-  c.or_else.ensures,
+  c.result_and-then-end-file.ensures,
+  c.result_and.ensures,
   c.record_list_check-arcs.ensures,
   c.record_list_check-attachments.ensures,
   c.list_end-end.ensures.0,
@@ -18,7 +18,7 @@ returns-then-end-file c = rw (
 pub returns : goal.returns
 unfolding body_check
 returns c = rw (
-  c.or_else-2.ensures,
+  c.result_and-2.ensures,
   c.record_list_check-arcs.ensures,
   c.record_list_check-attachments.ensures,
   c.list_end-after_arcs.ensures.0,

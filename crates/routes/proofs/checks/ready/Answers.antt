@@ -3,16 +3,16 @@ use Rattle.routes.proofs.Order.{matrices_stop, squares, entries_then, matrices_g
 use Rattle.routes.proofs.checks.ready.Goals as goal
 
 pub first_malformed-arcs-requires : goal.first_malformed-arcs-requires
-first_malformed-arcs-requires c = let s = c.args in (squares (on_network s.l s.n s.a.now) s.r.now c.check_nodes.ensures c.check_length.ensures c.check_length-2.ensures c.or_else-lengths.ensures c.in-Given.p (rw c.in-Given.is at c.enter.ensures)).0
+first_malformed-arcs-requires c = let s = c.args in (squares (on_network s.l s.n s.a.now) s.r.now c.check_nodes.ensures c.check_length.ensures c.check_length-2.ensures c.result_and-lengths.ensures c.in-Given.p (rw c.in-Given.is at c.enter.ensures)).0
 
 pub first_malformed-routes-requires : goal.first_malformed-routes-requires
-first_malformed-routes-requires c = let s = c.args in (squares (on_network s.l s.n s.a.now) s.r.now c.check_nodes.ensures c.check_length.ensures c.check_length-2.ensures c.or_else-lengths.ensures c.in-Given.p (rw c.in-Given.is at c.enter.ensures)).1
+first_malformed-routes-requires c = let s = c.args in (squares (on_network s.l s.n s.a.now) s.r.now c.check_nodes.ensures c.check_length.ensures c.check_length-2.ensures c.result_and-lengths.ensures c.in-Given.p (rw c.in-Given.is at c.enter.ensures)).1
 
 pub returns-in-Refused : goal.returns-in-Refused
-returns-in-Refused c = let s = c.args in matrices_stop (on_network s.l s.n s.a.now) s.r.now c.check_nodes.ensures c.check_length.ensures c.check_length-2.ensures c.or_else-lengths.ensures (rw c.in-Refused.is at c.enter.ensures)
+returns-in-Refused c = let s = c.args in matrices_stop (on_network s.l s.n s.a.now) s.r.now c.check_nodes.ensures c.check_length.ensures c.check_length-2.ensures c.result_and-lengths.ensures (rw c.in-Refused.is at c.enter.ensures)
 
-pub returns-in-Refused-or_else : goal.returns-in-Refused-or_else
-returns-in-Refused-or_else c = let s = c.args in entries_then (on_network s.l s.n s.a.now) s.r.now c.check_nodes.ensures c.check_length.ensures c.check_length-2.ensures c.or_else-lengths.ensures c.in-Given.p (rw c.in-Given.is at c.enter.ensures) c.first_malformed-arcs.ensures c.first_malformed-routes.ensures c.or_else.ensures c.in-Refused-or_else.is
+pub returns-in-Refused-result_and : goal.returns-in-Refused-result_and
+returns-in-Refused-result_and c = let s = c.args in entries_then (on_network s.l s.n s.a.now) s.r.now c.check_nodes.ensures c.check_length.ensures c.check_length-2.ensures c.result_and-lengths.ensures c.in-Given.p (rw c.in-Given.is at c.enter.ensures) c.first_malformed-arcs.ensures c.first_malformed-routes.ensures c.result_and.ensures c.in-Refused-result_and.is
 
 pub returns-in-Passed : goal.returns-in-Passed
-returns-in-Passed c = let s = c.args in matrices_given (on_network s.l s.n s.a.now) s.r.now c.check_nodes.ensures c.check_length.ensures c.check_length-2.ensures c.or_else-lengths.ensures c.in-Given.p (rw c.in-Given.is at c.enter.ensures) c.first_malformed-arcs.ensures c.first_malformed-routes.ensures c.or_else.ensures c.in-Passed.is
+returns-in-Passed c = let s = c.args in matrices_given (on_network s.l s.n s.a.now) s.r.now c.check_nodes.ensures c.check_length.ensures c.check_length-2.ensures c.result_and-lengths.ensures c.in-Given.p (rw c.in-Given.is at c.enter.ensures) c.first_malformed-arcs.ensures c.first_malformed-routes.ensures c.result_and.ensures c.in-Passed.is

@@ -7,5 +7,5 @@ use Rattle.weights.proofs.comparing.better_of.Goals as goal
 pub returns-then-better : goal.returns-then-better
 returns-then-better c = sym (better_of_second (places_of c.args.p) (weight_of c.args.x) (weight_of c.args.y) (sym c.better.ensures ∙ c.if-better.true))
 
-pub returns : goal.returns
-returns c = sym (better_of_first (places_of c.args.p) (weight_of c.args.x) (weight_of c.args.y) (sym c.better.ensures ∙ c.if-better.false))
+pub returns-else-better : goal.returns-else-better
+returns-else-better c = sym (better_of_first (places_of c.args.p) (weight_of c.args.x) (weight_of c.args.y) (sym c.better.ensures ∙ c.if-better.false))
