@@ -37,12 +37,6 @@ laws_passed cs e =
 -- ---- what the code finds
 
 module _ (l : Language) (sizes lengths : Check) where
-  pub by_sizes : {x : Refusal} → sizes ≡ Err x → entrance_check l sizes lengths ≡ Err x
-  by_sizes e = stops _ e
-
-  pub by_language : {x : Refusal} → sizes ≡ Ok tt → language_check l ≡ Err x → entrance_check l sizes lengths ≡ Err x
-  by_language es e = goes_on es (stops _ e)
-
   module _ (p : Places) (es : sizes ≡ Ok tt) (el : language_check l ≡ Ok tt) (placed : places_of p ≡ padded places (components_of l)) where
     rest : {c : Check} → result_and lengths (laws_check (places_of p)) ≡ c → entrance_check l sizes lengths ≡ c
     rest e = goes_on es (goes_on el (ap (result_and lengths) (sym (laws_same l p placed)) ∙ e))

@@ -8,65 +8,55 @@ ghost use Rattle.weights.specs.Languages.{places_of};
 ghost use Rattle.guards.specs.Checks.{nodes_case, node_case};
 ghost use Rattle.guards.specs.Entrance.{length_measured, laws_check};
 
-use refusals::{Check, Refusal};
+use refusals::Refusal;
 use weights::{Places, WEIGHT_WORDS};
 
 pub const MOST_NODES: u32 = 16;
 
-// What the checks of a call find: the language in its places, or a refusal.
-#[derive(Clone, Copy)]
-pub enum Ready {
-    Given(Places),
-    Refused(Refusal),
-}
-
 // 3: the number of nodes.
-pub fn check_nodes(n: u32) -> Check
+pub fn check_nodes(n: u32) -> Result<(), Refusal>
     ensures { result ≡ (nodes_case n).check }
 {
-    if n < 1 {
-        return Check::Refused(Refusal::Size { which: 1, place: 0 });
+    if n < 1 || MOST_NODES < n {
+        return Err(Refusal::Size { which: 1, place: 0 });
     }
-    if MOST_NODES < n {
-        return Check::Refused(Refusal::Size { which: 1, place: 0 });
-    }
-    Check::Passed
+    Ok(())
 }
 
 // 9: the words of an n x n matrix; passed where n is over 16, since 3 is told before.
-pub fn check_length(which: u32, n: u32, s: &[u32]) -> Check
+pub fn check_length(which: u32, n: u32, s: &[u32]) -> Result<(), Refusal>
     ensures { result ≡ length_measured which n s.now }
 {
     if MOST_NODES < n {
-        return Check::Passed;
+        return Ok(());
     }
     let row = n as usize * WEIGHT_WORDS;
     let words = n as usize * row;
     if s.len() != words {
-        return Check::Refused(Refusal::Length { which, place: 0 });
+        return Err(Refusal::Length { which, place: 0 });
     }
-    Check::Passed
+    Ok(())
 }
 
 // 10: law D, then U.
-pub fn check_laws(p: Places) -> Check
+pub fn check_laws(p: Places) -> Result<(), Refusal>
     ensures { result ≡ laws_check (places_of p) }
 {
     if !laws::has_d(p) {
-        return Check::Refused(Refusal::Law { which: 1, place: 0 });
+        return Err(Refusal::Law { which: 1, place: 0 });
     }
     if !laws::has_u(p) {
-        return Check::Refused(Refusal::Law { which: 2, place: 0 });
+        return Err(Refusal::Law { which: 2, place: 0 });
     }
-    Check::Passed
+    Ok(())
 }
 
 // 7: the node that is the call's argument number `place`.
-pub fn check_node(place: u32, n: u32, i: u32) -> Check
+pub fn check_node(place: u32, n: u32, i: u32) -> Result<(), Refusal>
     ensures { result ≡ (node_case place n i).check }
 {
-    if i < n {
-        return Check::Passed;
+    if n <= i {
+        return Err(Refusal::NoSuch { which: 0, place });
     }
-    Check::Refused(Refusal::NoSuch { which: 0, place })
+    Ok(())
 }

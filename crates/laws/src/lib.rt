@@ -9,7 +9,7 @@ ghost use Rattle.laws.specs.Report.{four_words, law_of, law_row, no_words, repor
 ghost use Rattle.laws.specs.Flags.{flags_of, some_flag, over_at, before_flag, after_flag};
 
 use refusals::Refusal;
-use weights::{Checked, Component, Language, Places};
+use weights::{Component, Language, Places};
 
 // A flag for each place.
 #[derive(Clone, Copy)]
@@ -507,12 +507,12 @@ pub fn laws(l: Language) -> LawAnswer
     ensures { answer_row result ≡ report l }
 {
     match placing::check(l) {
-        Checked::Sound(p) => {
+        Ok(p) => {
             let d = law_d(p);
             let u = law_u(p);
             let c = law_c(p);
             LawAnswer::Laws { d, u, c }
         }
-        Checked::Unsound(r) => LawAnswer::Refused(r),
+        Err(r) => LawAnswer::Refused(r),
     }
 }

@@ -18,7 +18,7 @@ use Rattle.weights.specs.Words.{reading, read_of, is_good}
 use Rattle.matrices.specs.Buffers.{entry_place, well_formed, first_malformed, entries_case, matrix_check, Square, Formed, AtFirstMalformed}
 use Rattle.refusals.specs.Cases.{DueIn}
 use Rattle.refusals.specs.Checks.{Check}
-use Rattle.std.specs.Prelude.{Option, Ok, Err, Some, None}
+use Rattle.std.specs.Prelude.{Option, Ok, Err, Some, None, is_some}
 
 -- ---- one entry further
 
@@ -152,11 +152,15 @@ pub entries_words : (n : ℕ) → n * (n * weight_words) ≡ n * n * weight_word
 entries_words n = sym (mul_assoc n n weight_words)
 
 -- what the code reads is the test
-pub read_bad : (cap : ℕ) (cs : List Component) (ws : List ℕ) (r : (Option declared.Weight)) → read_of r ≡ reading cap cs ws → r ≡ None → is_good (reading cap cs ws) ≡ false
-read_bad cap cs ws r e q = ap is_good (sym e) ∙ ap (λ (r : (Option declared.Weight)). is_good (read_of r)) q
+good_read : (r : Option declared.Weight) → is_good (read_of r) ≡ is_some r
+good_read (Some w) = refl
+good_read None = refl
 
-pub read_good : (cap : ℕ) (cs : List Component) (ws : List ℕ) (r : (Option declared.Weight)) (w : declared.Weight) → read_of r ≡ reading cap cs ws → r ≡ Some w → is_good (reading cap cs ws) ≡ true
-read_good cap cs ws r w e q = ap is_good (sym e) ∙ ap (λ (r : (Option declared.Weight)). is_good (read_of r)) q
+pub read_bad : (cap : ℕ) (cs : List Component) (ws : List ℕ) (r : Option declared.Weight) → read_of r ≡ reading cap cs ws → is_some r ≡ false → is_good (reading cap cs ws) ≡ false
+read_bad cap cs ws r e q = ap is_good (sym e) ∙ good_read r ∙ q
+
+pub read_good : (cap : ℕ) (cs : List Component) (ws : List ℕ) (r : Option declared.Weight) → read_of r ≡ reading cap cs ws → is_some r ≡ true → is_good (reading cap cs ws) ≡ true
+read_good cap cs ws r e q = ap is_good (sym e) ∙ good_read r ∙ q
 
 module _ (which cap : ℕ) (cs : List Component) (n : ℕ) (s : List ℕ) where
   -- entry m of the buffer is entry (m / n, m % n) of the matrix
