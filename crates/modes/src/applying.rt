@@ -51,6 +51,5 @@ pub fn apply(p: Places, w: Weight, e: Entry) -> Entry
         third,
         fourth,
     };
-    let y = weights::joining::join(p, w, x);
-    with_t(y, t)
+    with_t(weights::joining::join(p, w, x), t)
 }

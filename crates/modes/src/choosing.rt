@@ -3,26 +3,22 @@ ghost use Rattle.std.specs.Prelude.{◌≡◌};
 ghost use Rattle.weights.specs.Languages.{components_of};
 ghost use Rattle.modes.specs.Entries.{largest_t, mode_for, needs_c};
 
-use super::{Chosen, LARGEST_T, Mode};
+use super::{LARGEST_T, Mode};
 use weights::Language;
 
 // The mode of a number, where it fits the language and m destinations.
-pub fn mode_for(l: Language, m: usize, number: u32) -> Chosen
+pub fn mode_for(l: Language, m: usize, number: u32) -> Option<Mode>
     ensures { result ≡ mode_for (components_of l) m number }
 {
     if m < 1 {
-        return Chosen::Unfit;
+        return None;
     }
-    if number == 1 {
-        return Chosen::Fits(Mode::Plain);
+    match number {
+        1 => Some(Mode::Plain),
+        2 => Some(Mode::Hot),
+        3 => Some(Mode::Cold),
+        _ => None,
     }
-    if number == 2 {
-        return Chosen::Fits(Mode::Hot);
-    }
-    if number == 3 {
-        return Chosen::Fits(Mode::Cold);
-    }
-    Chosen::Unfit
 }
 
 // The largest t of a mode.
@@ -31,8 +27,7 @@ pub fn largest_t(mode: Mode) -> u32
 {
     match mode {
         Mode::Plain => 0,
-        Mode::Hot => LARGEST_T,
-        Mode::Cold => LARGEST_T,
+        Mode::Hot | Mode::Cold => LARGEST_T,
     }
 }
 
@@ -40,9 +35,5 @@ pub fn largest_t(mode: Mode) -> u32
 pub fn needs_c(mode: Mode) -> bool
     ensures { result ≡ needs_c mode }
 {
-    match mode {
-        Mode::Plain => false,
-        Mode::Hot => true,
-        Mode::Cold => false,
-    }
+    matches!(mode, Mode::Hot)
 }

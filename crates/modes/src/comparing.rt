@@ -12,8 +12,7 @@ use weights::{Comparison, Places, Weight};
 fn better_hot(p: Places, x: Weight, t: u32, y: Weight, u: u32) -> bool
     ensures { result ≡ by_weight_then_t ltb (places_of p) (weight_of x) t (weight_of y) u }
 {
-    let c = weights::comparing::compare(p, x, y);
-    match c {
+    match weights::comparing::compare(p, x, y) {
         Comparison::Better => true,
         Comparison::Equal => t < u,
         Comparison::Worse => false,
@@ -84,8 +83,5 @@ pub fn better(p: Places, mode: Mode, e: Entry, f: Entry) -> bool
 pub fn better_of(p: Places, mode: Mode, e: Entry, f: Entry) -> Entry
     ensures { entry_of result ≡ pick (mode_of mode (places_of p)).entries (entry_of e) (entry_of f) }
 {
-    if better(p, mode, f, e) {
-        return f;
-    }
-    e
+    if better(p, mode, f, e) { f } else { e }
 }

@@ -17,7 +17,7 @@ fn weight_in(e: Entry) -> Weight
         second,
         third,
         fourth,
-        t: _,
+        ..
     } = e
     else {
         return Weight::NoRoute;
@@ -34,24 +34,10 @@ fn weight_in(e: Entry) -> Weight
 fn is_sooner(e: Entry, f: Entry) -> bool
     ensures { result ≡ sooner (entry_of e) (entry_of f) }
 {
-    let Entry::Mapped {
-        first: _,
-        second: _,
-        third: _,
-        fourth: _,
-        t,
-    } = e
-    else {
+    let Entry::Mapped { t, .. } = e else {
         return false;
     };
-    let Entry::Mapped {
-        first: _,
-        second: _,
-        third: _,
-        fourth: _,
-        t: u,
-    } = f
-    else {
+    let Entry::Mapped { t: u, .. } = f else {
         return false;
     };
     t < u
@@ -62,9 +48,7 @@ fn loses_first(p: Places, e: Entry, x: Weight, f: Entry) -> bool
     requires { AtMost 2147483647 (weight_of x) × AtMost 2147483647 (weight_in (entry_of f)) }
     ensures { result ≡ loses (places_of p) (weight_in (entry_of e)) (weight_of x) (weight_in (entry_of f)) }
 {
-    let w = weight_in(e);
-    let y = weight_in(f);
-    weights::gaining::loses(p, w, x, y)
+    weights::gaining::loses(p, weight_in(e), x, weight_in(f))
 }
 
 // e stays beside x applied to f, whatever is left of the join: by the first value, in cold mode by the smaller t.
@@ -73,8 +57,7 @@ pub fn loses(p: Places, mode: Mode, e: Entry, x: Weight, f: Entry) -> bool
     ensures { result ≡ loses_entry mode (places_of p) (entry_of e) (weight_of x) (entry_of f) }
 {
     match mode {
-        Mode::Plain => loses_first(p, e, x, f),
-        Mode::Hot => loses_first(p, e, x, f),
+        Mode::Plain | Mode::Hot => loses_first(p, e, x, f),
         Mode::Cold => is_sooner(e, f),
     }
 }

@@ -9,22 +9,15 @@ pub mod gaining;
 // The largest t of a mode other than plain.
 pub const LARGEST_T: u32 = 65535;
 
-#[derive(Clone, Copy)]
+#[derive(Clone, Copy, Debug, PartialEq, Eq)]
 pub enum Mode {
     Plain,
     Hot,
     Cold,
 }
 
-// What a mode's number stands for, with a language and a number of destinations.
-#[derive(Clone, Copy)]
-pub enum Chosen {
-    Fits(Mode),
-    Unfit,
-}
-
 // A table's entry: a route, with a value in each place, and an outside number t; or empty.
-#[derive(Clone, Copy)]
+#[derive(Clone, Copy, Debug, PartialEq, Eq)]
 pub enum Entry {
     Mapped {
         first: u32,

@@ -1,6 +1,6 @@
 -- Where the entries of a table lie: within the buffer, which is small, and entry e is that of node e / m and destination e % m.
 use Prim.Native.Nat.{ℕ, zero, suc, ◌+◌, ◌*◌, ◌/◌, ◌%◌, ◌≤◌, ◌<◌}
-use mathlib.Core.Path.{◌≡◌, sym, ap, ◌∙◌}
+use mathlib.Core.Path.{◌≡◌, sym, ap, ◌∙◌, refl}
 use mathlib.Core.Bool.{true, false}
 use mathlib.Core.List.{List}
 use native.Mathlib.Nat.{mul-le-mul, mul-le-mul_right, mul_assoc, div-add-mod', div-lt_iff_lt-mul, mod-lt}
@@ -13,7 +13,7 @@ use Rattle.modes.specs.declared.Mode.{Mode}
 use Rattle.modes.specs.declared.Entry as declared
 use Rattle.tables.specs.Tables.{reading_entry, entry_read_of, is_good_entry, table_place, entry_at, well_formed_entry, Sized}
 use Rattle.tables.specs.Parts.{InTable}
-use Rattle.std.specs.Prelude.{Option, Some, None}
+use Rattle.std.specs.Prelude.{Option, Some, None, is_some}
 
 -- the buffer is small
 pub table_small : (n m : ℕ) (s : List ℕ) → Sized n m s → length s ≤ 2560
@@ -63,8 +63,12 @@ module _ (mode : Mode) (cap : ℕ) (cs : List Component) (s : List ℕ) (n m e :
   told : is_good_entry (entry_read_of r) ≡ well_formed_entry mode cap cs s (e * entry_words)
   told = ap is_good_entry q ∙ ap (well_formed_entry mode cap cs s) (counted n m e h).same
 
-  pub entry_bad : r ≡ None → well_formed_entry mode cap cs s (e * entry_words) ≡ false
-  entry_bad g = sym told ∙ ap (λ (x : (Option declared.Entry)). is_good_entry (entry_read_of x)) g
+  good_read : (x : Option declared.Entry) → is_good_entry (entry_read_of x) ≡ is_some x
+  good_read (Some x) = refl
+  good_read None = refl
 
-  pub entry_good : (x : declared.Entry) → r ≡ Some x → well_formed_entry mode cap cs s (e * entry_words) ≡ true
-  entry_good x g = sym told ∙ ap (λ (x : (Option declared.Entry)). is_good_entry (entry_read_of x)) g
+  pub entry_bad : is_some r ≡ false → well_formed_entry mode cap cs s (e * entry_words) ≡ false
+  entry_bad g = sym told ∙ good_read r ∙ g
+
+  pub entry_good : is_some r ≡ true → well_formed_entry mode cap cs s (e * entry_words) ≡ true
+  entry_good g = sym told ∙ good_read r ∙ g

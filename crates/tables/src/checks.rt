@@ -3,10 +3,10 @@ ghost use Rattle.std.specs.Prelude.{◌≡◌};
 ghost use Rattle.weights.specs.Languages.{places_of};
 ghost use Rattle.tables.specs.Tables.{table_check, Sized};
 
-use super::{EntryRead, entries};
+use super::entries;
 use modes::Mode;
 use numbers::{Destination, Node};
-use refusals::{Check, Refusal};
+use refusals::Refusal;
 use weights::{ENTRY_WORDS, Places};
 
 // Passes, or refuses the first entry, by rows, that is none of the language and the mode with its sums at most cap.
@@ -18,23 +18,17 @@ pub fn first_malformed_entry(
     n: usize,
     m: usize,
     s: &[u32],
-) -> Check
+) -> Result<(), Refusal>
     requires { Sized n m s.now }
     ensures { result ≡ table_check which mode cap (places_of p) n m s.now }
 {
-    let count = n * m;
-    let mut e: usize = 0;
-    while e < count {
-        let node = e / m;
-        let destination = e % m;
-        let read = entries::read_entry(p, mode, cap, s, m, Node(node), Destination(destination));
-        if let EntryRead::Malformed = read {
-            return Check::Refused(Refusal::Value {
-                which,
-                place: (e * ENTRY_WORDS) as u32,
-            });
+    for e in 0..n * m {
+        let node = Node(e / m);
+        let destination = Destination(e % m);
+        if entries::read_entry(p, mode, cap, s, m, node, destination).is_none() {
+            let place = (e * ENTRY_WORDS) as u32;
+            return Err(Refusal::Value { which, place });
         }
-        e += 1;
     }
-    Check::Passed
+    Ok(())
 }

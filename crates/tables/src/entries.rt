@@ -9,10 +9,9 @@ ghost use Rattle.modes.specs.Entries.{entry_of};
 ghost use Rattle.tables.specs.Tables.{words_of, reading_entry, entry_read_of, entry_at, table_place, table_in};
 ghost use Rattle.tables.specs.Parts.{InTable, route_read};
 
-use super::EntryRead;
 use modes::{Entry, Mode, choosing};
 use numbers::{Destination, Node};
-use weights::{ENTRY_WORDS, ONES, Places, Read, Weight};
+use weights::{ENTRY_WORDS, ONES, Places, Weight};
 
 // Where the entry of a node and a destination begins.
 fn place(m: usize, node: Node, destination: Destination) -> usize
@@ -66,34 +65,28 @@ pub fn look_up(s: &[u32], m: usize, node: Node, destination: Destination) -> Ent
 }
 
 // What a weight that reads well stands for with the word of t: empty is ones in every word, and no route has no t.
-fn read_with(mode: Mode, w: Weight, t: u32) -> EntryRead
+fn read_with(mode: Mode, w: Weight, t: u32) -> Option<Entry>
     ensures { entry_read_of result ≡ route_read mode (weight_of w) t }
 {
-    let Weight::Route {
-        first,
-        second,
-        third,
-        fourth,
-    } = w
-    else {
-        if t == ONES {
-            return EntryRead::Good(Entry::Empty);
-        }
-        return EntryRead::Malformed;
-    };
-    if t <= choosing::largest_t(mode) {
-        return EntryRead::Good(Entry::Mapped {
+    match w {
+        Weight::Route {
+            first,
+            second,
+            third,
+            fourth,
+        } if t <= choosing::largest_t(mode) => Some(Entry::Mapped {
             first,
             second,
             third,
             fourth,
             t,
-        });
+        }),
+        Weight::NoRoute if t == ONES => Some(Entry::Empty),
+        _ => None,
     }
-    EntryRead::Malformed
 }
 
-// What the words of the entry of a node and a destination stand for, a sum being at most cap.
+// The entry of a node and a destination, a sum being at most cap; none where its words are malformed.
 pub fn read_entry(
     p: Places,
     mode: Mode,
@@ -102,17 +95,13 @@ pub fn read_entry(
     m: usize,
     node: Node,
     destination: Destination,
-) -> EntryRead
+) -> Option<Entry>
     requires { InTable m node.0 destination.0 s.now }
     ensures { entry_read_of result ≡ reading_entry mode cap (places_of p) (entry_at s.now (table_place m node.0 destination.0)) }
 {
     let at = place(m, node, destination);
-    let t = s[at + 4];
-    let read = words::read_at(p, cap, s, at);
-    match read {
-        Read::Good(w) => read_with(mode, w, t),
-        Read::Malformed => EntryRead::Malformed,
-    }
+    let w = words::read_at(p, cap, s, at)?;
+    read_with(mode, w, s[at + 4])
 }
 
 // Writes the words of an entry from `at` on.

@@ -3,12 +3,3 @@
 
 pub mod checks;
 pub mod entries;
-
-use modes::Entry;
-
-// What the words of an entry stand for.
-#[derive(Clone, Copy)]
-pub enum EntryRead {
-    Good(Entry),
-    Malformed,
-}

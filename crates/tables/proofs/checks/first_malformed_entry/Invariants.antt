@@ -7,7 +7,4 @@ use Rattle.tables.specs.Tables.{well_formed_entry, table_check}
 use Rattle.tables.proofs.checks.first_malformed_entry.Given as goal
 
 abbrev pub invariant-loop-e : goal.invariant-loop-e
-invariant-loop-e l = (l.e ≤ l.count) × (l.count ≡ l.n * l.m) × (table_check l.which l.mode l.cap (places_of l.p) l.n l.m l.s ≡ first_malformed (well_formed_entry l.mode l.cap (places_of l.p) l.s) entry_words l.which l.e (l.count - l.e))
-
-abbrev pub decreases-loop-e : goal.decreases-loop-e
-decreases-loop-e l = l.count - l.e
+invariant-loop-e l = (l.e ≤ l.n * l.m) × (table_check l.which l.mode l.cap (places_of l.p) l.n l.m l.s ≡ first_malformed (well_formed_entry l.mode l.cap (places_of l.p) l.s) entry_words l.which l.e (l.n * l.m - l.e))

@@ -1,4 +1,0 @@
-use Rattle.modes.proofs.applying.with_t.Goals as goal
-
-pub returns : goal.returns
-returns c = rw c.in-Route.is
