@@ -38,5 +38,5 @@ module _ (N : OnNetwork) (standing newer : List ℕ) (i : ℕ) where
       → (ys ≡ lent_row N standing newer i) × (y ≡ lent_start N standing newer i v w) → (xs ≡ ys) × (x ≡ y)
   lent_parts_equal v w xs ys x y p q = (p.0 ∙ sym q.0, p.1 ∙ sym q.1)
 
-  pub handover_ready_one : (x y : (Result Places Refusal)) → HandoverReady N standing newer i x → HandoverReady N standing newer i y → x ≡ y
+  pub handover_ready_one : (x y : Result Places Refusal) → HandoverReady N standing newer i x → HandoverReady N standing newer i y → x ≡ y
   handover_ready_one = one_ready N.language (handover_check N standing newer i) (HandoverReady N standing newer i) (λ p k. (k.passes, k.in_places)) (λ x e. e)

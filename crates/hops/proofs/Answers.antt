@@ -89,7 +89,7 @@ module _ (N : OnNetwork) (r : List ℕ) (i j : ℕ) where
       pair_in = let h = both_pass first second (sym q ∙ passed) in (node_passed 0 n i (sym qi ∙ h.0), node_passed 1 n j (sym qj ∙ h.1))
 
       -- what the search found is the answer's node
-      pub found_row : (f : (Option Node)) → found_at f ≡ hop_of (places_of p) n (matrix_in places n arcs) (matrix_in places n r) i j → hop_row_by (Ok tt) (found_at f) ≡ hop_row N r i j
+      pub found_row : (f : Option Node) → found_at f ≡ hop_of (places_of p) n (matrix_in places n arcs) (matrix_in places n r) i j → hop_row_by (Ok tt) (found_at f) ≡ hop_row N r i j
       found_row f found =
           let s = placed_sound N.language p o in
           ap (hop_row_by (Ok tt)) (found ∙ hop_goes (components N) p (few N.language) o.placed s n (arcs_on N) (matrix_in places n arcs) (matrix_on N r) (matrix_in places n r)

@@ -19,13 +19,13 @@ node_one k m e = λ i. record { 0 = e i }
 some_not : {k : ℕ} → ◌≡◌ {A = Option ℕ} (some k) nothing → ⊥
 some_not e = let z : ◌≡◌ {A = ℕ} 1 0 = cc in omega arith
 
-pub found_one : (f g : (Option Node)) → found_at f ≡ found_at g → f ≡ g
+pub found_one : (f g : Option Node) → found_at f ≡ found_at g → f ≡ g
 found_one (Some k) (Some m) e = ap Some (node_one k m (some_one e))
 found_one (Some k) None e = absurd (some_not e)
 found_one None (Some m) e = absurd (some_not (sym e))
 found_one None None e = refl
 
-hop_one : (x y : (Result (Option Node) Refusal)) → hop_said x ≡ hop_said y → x ≡ y
+hop_one : (x y : Result (Option Node) Refusal) → hop_said x ≡ hop_said y → x ≡ y
 hop_one (Ok (Some k)) (Ok (Some m)) e = ap HOP (node_one k m (some_one (ap (λ (w : HopRow). w.node) e)))
 hop_one (Ok (Some k)) (Ok None) e = absurd (some_not (ap (λ (w : HopRow). w.node) e))
 hop_one (Ok (Some k)) (Err r) e = absurd (told_not_done r (sym (ap (λ (w : HopRow). w.told) e)))
@@ -36,5 +36,5 @@ hop_one (Err r) (Ok (Some m)) e = absurd (told_not_done r (ap (λ (w : HopRow). 
 hop_one (Err r) (Ok None) e = absurd (told_not_done r (ap (λ (w : HopRow). w.told) e))
 hop_one (Err r) (Err s) e = ap Err (told_one r s (ap (λ (w : HopRow). w.told) e))
 
-pub hop_answers_equal : (N : OnNetwork) (r : List ℕ) (i j : ℕ) (x y : (Result (Option Node) Refusal)) → hop_said x ≡ hop_row N r i j → hop_said y ≡ hop_row N r i j → x ≡ y
+pub hop_answers_equal : (N : OnNetwork) (r : List ℕ) (i j : ℕ) (x y : Result (Option Node) Refusal) → hop_said x ≡ hop_row N r i j → hop_said y ≡ hop_row N r i j → x ≡ y
 hop_answers_equal N r i j x y p q = hop_one x y (p ∙ sym q)

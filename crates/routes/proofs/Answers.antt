@@ -1,7 +1,7 @@
 -- From what the inner functions say to the calls' own words: the answer's row and what the buffer holds.
 use Prim.Native.Nat.{ℕ, ◌≤◌, ◌<◌}
 use mathlib.Core.Path.{◌≡◌, sym, ap, ◌∙◌}
-use mathlib.Core.Bool.{Bool, true, false}
+use mathlib.Core.Bool.{Bool, false}
 use mathlib.Core.List.{List, [], ◌∷◌, map}
 use lib.ListN.{length}
 use borrow.Author.Tests.{lt-ltb, le-ltb}
@@ -20,7 +20,6 @@ use Rattle.weights.specs.Languages.{components_of, places_of}
 use Rattle.weights.proofs.Checking.{few}
 use Rattle.matrices.specs.Buffers.{matrix_words, matrix_in}
 use Rattle.matrices.specs.Steps.{solves, Given}
-use Rattle.routes.specs.declared.StepsAnswer.TheVariants.{Done, Refused as StepsRefused}
 use Rattle.guards.specs.Checks.{many_case, list_case}
 use Rattle.guards.specs.OnNetwork.{OnNetwork, components, matrix_on, arcs_on}
 use Rattle.guards.specs.Entrance.{Placed}
@@ -58,14 +57,14 @@ module _ (N : OnNetwork) (r list : List ℕ) where
       (check_append (steps_cases N r list) (sum_case N r list ∷ []) ∙ ap (result_and (steps_check N r list)) (or_passed (sum_case N r list).check))
       ∙ ap (λ (c : Check). row_by c (count_of N r list) (length list)) e
 
-  refused : (x : Refusal) → steps_check N r list ≡ Err x → (steps_said (StepsRefused x 0) ≡ steps_row N r list) × (r ≡ steps_left N r list)
+  refused : (x : Refusal) → steps_check N r list ≡ Err x → (steps_said (Err (record { refusal = x; done = 0 })) ≡ steps_row N r list) × (r ≡ steps_left N r list)
   refused x e = (sym (row_by_lem e), sym (if_refused (matrix_words n (ran_of N r list)) r e))
 
-  pub steps_refused : (x : Refusal) → equation_check N r ≡ Err x → (steps_said (StepsRefused x 0) ≡ steps_row N r list) × (r ≡ steps_left N r list)
+  pub steps_refused : (x : Refusal) → equation_check N r ≡ Err x → (steps_said (Err (record { refusal = x; done = 0 })) ≡ steps_row N r list) × (r ≡ steps_left N r list)
   steps_refused x e = refused x (rest_stops N r (many_case list ∷ list_case n list ∷ []) e)
 
   module _ (p : Places) (e : equation_check N r ≡ Ok tt) where
-    pub list_refused : (x : Refusal) → first_of ((many_case list).check ∷ (list_case n list).check ∷ []) ≡ Err x → (steps_said (StepsRefused x 0) ≡ steps_row N r list) × (r ≡ steps_left N r list)
+    pub list_refused : (x : Refusal) → first_of ((many_case list).check ∷ (list_case n list).check ∷ []) ≡ Err x → (steps_said (Err (record { refusal = x; done = 0 })) ≡ steps_row N r list) × (r ≡ steps_left N r list)
     list_refused x q = refused x (rest_goes_on N r (many_case list ∷ list_case n list ∷ []) e q)
 
     module _ (o : Placed N.language p) (g : Given (places_of p) n arcs r) (q : first_of ((many_case list).check ∷ (list_case n list).check ∷ []) ≡ Ok tt) (k : ℕ) (left : List ℕ)
@@ -84,10 +83,10 @@ module _ (N : OnNetwork) (r list : List ℕ) where
       row : row_by (Ok tt) k (length list) ≡ steps_row N r list
       row = ap (λ (m : ℕ). row_by (Ok tt) m (length list)) (ek ∙ bridged.0) ∙ sym (row_by_lem passes)
 
-      pub steps_stopped : k < length list → (steps_said (StepsRefused (Sum 0 k) k) ≡ steps_row N r list) × (left ≡ steps_left N r list)
+      pub steps_stopped : k < length list → (steps_said (Err (record { refusal = Sum 0 k; done = k })) ≡ steps_row N r list) × (left ≡ steps_left N r list)
       steps_stopped h = ((rw (lt-ltb k (length list) h) at row), stands)
 
-      pub steps_done : length list ≤ k → (steps_said (Done k) ≡ steps_row N r list) × (left ≡ steps_left N r list)
+      pub steps_done : length list ≤ k → (steps_said (Ok k) ≡ steps_row N r list) × (left ≡ steps_left N r list)
       steps_done h = ((rw (le-ltb k (length list) h) at row), stands)
 
 -- ---- equation
@@ -103,15 +102,9 @@ module _ (N : OnNetwork) (r : List ℕ) where
   equation_refused x e = ap (λ (c : Check). yes_by c (solves (components N) n (arcs_on N) (matrix_on N r))) (sym e)
 
   module _ (p : Places) (e : equation_check N r ≡ Ok tt) (o : Placed N.language p) (g : Given (places_of p) n arcs r) {b : Bool} (q : b ≡ solves (places_of p) n (matrix_in places n arcs) (matrix_in places n r)) where
-    told_by : yes_by (Ok tt) b ≡ equation_row N r
-    told_by =
+    pub equation_answers : equation_said (Ok b) ≡ equation_row N r
+    equation_answers =
         ap (yes_by (Ok tt)) (q ∙ solves_go (components N) p (few N.language) o.placed (placed_sound N.language p o) n arcs (arcs_on N) (matrix_in places n arcs)
         (buffer_goes (components N) p (few N.language) o.placed (placed_sound N.language p o) n arcs arc_sum arcs g.arcs) (matrix_on N r) (matrix_in places n r)
         (buffer_goes (components N) p (few N.language) o.placed (placed_sound N.language p o) n arcs matrix_sum r g.routes))
         ∙ ap (λ (c : Check). yes_by c (solves (components N) n (arcs_on N) (matrix_on N r))) (sym e)
-
-    pub equation_yes : b ≡ true → equation_said (Ok true) ≡ equation_row N r
-    equation_yes t = ap (yes_by (Ok tt)) (sym t) ∙ told_by
-
-    pub equation_no : b ≡ false → equation_said (Ok false) ≡ equation_row N r
-    equation_no t = ap (yes_by (Ok tt)) (sym t) ∙ told_by

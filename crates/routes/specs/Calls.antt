@@ -14,8 +14,7 @@ use Rattle.weights.specs.Weights.{language}
 use Rattle.weights.specs.Languages.{components_of}
 use Rattle.matrices.specs.Buffers.{matrix_words}
 use Rattle.matrices.specs.Steps.{Matrix, row_fits, solves}
-use Rattle.routes.specs.declared.StepsAnswer.{StepsAnswer}
-use Rattle.routes.specs.declared.StepsAnswer.TheVariants.{Done, Refused as StepsRefused}
+use Rattle.routes.specs.declared.Stopped.{Stopped}
 use Rattle.guards.specs.Checks.{nodes_case, length_case, arcs_case, routes_case, many_case, list_case, call_cases, first_settle}
 use Rattle.guards.specs.OnNetwork.{OnNetwork, components, matrix_on, arcs_on}
 use Rattle.routes.specs.Stops.{StopsAt}
@@ -115,9 +114,9 @@ pub record StepsCounted (list : List ℕ) (row : StepsRow) : Type 0 where
   pub refused : (x : Refusal) → ((k : ℕ) → x ≡ Sum 0 k → ⊥) → row.told ≡ told x → row.done ≡ 0
 
 -- what the code's answer says
-abbrev pub steps_said : StepsAnswer → StepsRow
-steps_said (Done k) = record { told = done; done = k }
-steps_said (StepsRefused x k) = record { told = told x; done = k }
+abbrev pub steps_said : Result ℕ Stopped → StepsRow
+steps_said (Ok k) = record { told = done; done = k }
+steps_said (Err s) = record { told = told s.refusal; done = s.done }
 
 -- ---- equation
 
@@ -143,6 +142,5 @@ equation_row N r = record {
 
 -- what the code's answer says
 abbrev pub equation_said : Result Bool Refusal → EquationRow
-equation_said (Ok true) = record { told = done; yes = true }
-equation_said (Ok false) = record { told = done; yes = false }
+equation_said (Ok b) = record { told = done; yes = b }
 equation_said (Err x) = record { told = told x; yes = false }

@@ -20,16 +20,9 @@ pub enum Step {
     Settle(Node),
 }
 
-// All steps done, or refused after some.
-#[derive(Clone, Copy)]
-pub enum StepsAnswer {
-    Done(u32),
-    Refused { refusal: Refusal, done: u32 },
-}
-
-#[derive(Clone, Copy)]
-pub enum EquationAnswer {
-    Yes,
-    No,
-    Refused(Refusal),
+// A list of steps that was refused, after the steps that are done.
+#[derive(Clone, Copy, Debug, PartialEq, Eq)]
+pub struct Stopped {
+    pub refusal: Refusal,
+    pub done: u32,
 }

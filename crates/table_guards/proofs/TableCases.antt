@@ -85,7 +85,7 @@ module _ (cs : List Component) (m number : ℕ) where
   mode_refuses : (x : Refusal) → ((mode_case cs m number).check ≡ Err x) ↔ DueIn (mode_case cs m number) x
   mode_refuses x = (λ e. let z = tells (mode_for cs m number) e in (0, sym z, (refl, mode_case_lem.0 (e ∙ ap Err (sym z)))), back)
     where
-      tells : (c : (Option Mode)) → chosen_check c ≡ Err x → Size 3 0 ≡ x
+      tells : (c : Option Mode) → chosen_check c ≡ Err x → Size 3 0 ≡ x
       tells (Some mode) e = absurd (passed_not x e)
       tells None e = refused_one e
 

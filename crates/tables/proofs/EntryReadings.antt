@@ -78,7 +78,7 @@ module _ (mode : Mode) (cap : ℕ) (p : Places) where
   read_ill : (a b c d t : ℕ) → reading cap (places_of p) (a ∷ b ∷ c ∷ d ∷ []) ≡ malformed → reading_entry mode cap (places_of p) (a ∷ b ∷ c ∷ d ∷ t ∷ []) ≡ bad_entry
   read_ill a b c d t e = rw (five_ones a b c d t) (ill mode t (a ∷ b ∷ c ∷ d ∷ []) (all_are ones (a ∷ b ∷ c ∷ d ∷ [])) (fits cap (places_of p) (a ∷ b ∷ c ∷ d ∷ [])) e)
 
-  module _ (s : List ℕ) (at q : ℕ) (room : at + entry_words ≤ length s) (e : q ≡ at) (r : (Option declared.Weight)) (h : read_of r ≡ reading cap (places_of p) (take weight_words (drop q s))) where
+  module _ (s : List ℕ) (at q : ℕ) (room : at + entry_words ≤ length s) (e : q ≡ at) (r : Option declared.Weight) (h : read_of r ≡ reading cap (places_of p) (take weight_words (drop q s))) where
     there : read_of r ≡ reading cap (places_of p) (get_or s at 0 ∷ get_or s (at + 1) 0 ∷ get_or s (at + 2) 0 ∷ get_or s (at + 3) 0 ∷ [])
     there = h ∙ ap (λ (k : ℕ). reading cap (places_of p) (take weight_words (drop k s))) e ∙ ap (reading cap (places_of p)) (four_words_lem s at (omega arith))
 

@@ -59,7 +59,7 @@ counted n m e h = record {
     positive = go m h
 
 -- what the code reads is the test
-module _ (mode : Mode) (cap : ℕ) (cs : List Component) (s : List ℕ) (n m e : ℕ) (h : e < n * m) (r : (Option declared.Entry)) (q : entry_read_of r ≡ reading_entry mode cap cs (entry_at s (table_place m (e / m) (e % m)))) where
+module _ (mode : Mode) (cap : ℕ) (cs : List Component) (s : List ℕ) (n m e : ℕ) (h : e < n * m) (r : Option declared.Entry) (q : entry_read_of r ≡ reading_entry mode cap cs (entry_at s (table_place m (e / m) (e % m)))) where
   told : is_good_entry (entry_read_of r) ≡ well_formed_entry mode cap cs s (e * entry_words)
   told = ap is_good_entry q ∙ ap (well_formed_entry mode cap cs s) (counted n m e h).same
 

@@ -7,7 +7,7 @@ use Rattle.tables.specs.Tables.{entry_read_of}
 use Rattle.std.specs.Prelude.{Option, Some, None}
 use Rattle.modes.specs.declared.Entry as declared
 
-pub entry_read_one : (x y : (Option declared.Entry)) → entry_read_of x ≡ entry_read_of y → x ≡ y
+pub entry_read_one : (x y : Option declared.Entry) → entry_read_of x ≡ entry_read_of y → x ≡ y
 entry_read_one (Some v) (Some w) p = ap Some (entry_one v w (cc))
 entry_read_one (Some v) None p = let z : true ≡ false = cc in clash true refl z
 entry_read_one None (Some w) p = let z : true ≡ false = cc in clash true refl z

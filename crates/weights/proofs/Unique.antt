@@ -19,7 +19,7 @@ weight_one (Route a b c d) NoRoute p = let z : true ≡ false = cc in clash true
 weight_one NoRoute (Route e f g h) p = let z : true ≡ false = cc in clash true refl z
 weight_one NoRoute NoRoute p = refl
 
-pub read_one : (x y : (Option declared.Weight)) → read_of x ≡ read_of y → x ≡ y
+pub read_one : (x y : Option declared.Weight) → read_of x ≡ read_of y → x ≡ y
 read_one (Some v) (Some w) p = ap Some (weight_one v w (cc))
 read_one (Some v) None p = let z : true ≡ false = cc in clash true refl z
 read_one None (Some w) p = let z : true ≡ false = cc in clash true refl z
@@ -40,7 +40,7 @@ places_one p q e = λ i. record { first = a i; second = b i; third = c i; fourth
     d : p.fourth ≡ q.fourth
     d = cc
 
-pub checked_one : (l : Language) (x y : (Result Places Refusal)) → CheckSays l x → CheckSays l y → x ≡ y
+pub checked_one : (l : Language) (x y : Result Places Refusal) → CheckSays l x → CheckSays l y → x ≡ y
 checked_one l (Ok p) (Ok q) h k = ap Ok (places_one p q (h.1 ∙ sym k.1))
 checked_one l (Ok p) (Err r) h k = absurd (passed_not r (sym h.0 ∙ k))
 checked_one l (Err r) (Ok q) h k = absurd (passed_not r (sym k.0 ∙ h))
