@@ -6,6 +6,8 @@ pub mod checks;
 pub mod equation;
 pub mod fresh;
 
+ghost use Rattle.std.specs.Prelude.{◌≡◌};
+
 use numbers::Node;
 use refusals::Refusal;
 
@@ -25,4 +27,13 @@ pub enum Step {
 pub struct Stopped {
     pub refusal: Refusal,
     pub done: u32,
+}
+
+// A call that refuses before the first step has none done.
+impl From<Refusal> for Stopped {
+    ghost from_gives = { λ x s. s ≡ record { refusal = x; done = 0 } };
+
+    fn from(refusal: Refusal) -> Stopped {
+        Stopped { refusal, done: 0 }
+    }
 }

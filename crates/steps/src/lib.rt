@@ -12,10 +12,9 @@ ghost use Rattle.guards.specs.OnNetwork.{on_network};
 ghost use Rattle.routes.specs.Calls.{step_of, step_fits, steps_row, steps_left, steps_said};
 ghost use Rattle.routes.specs.Ready.{step_meant, step_left, AllSteps, run_left, run_done};
 
-use guards::Ready;
 use numbers::Node;
-use refusals::{Check, Refusal};
-use routes::{FIRST_SETTLE, MOST_STEPS, Step, StepsAnswer, checks};
+use refusals::Refusal;
+use routes::{FIRST_SETTLE, MOST_STEPS, Step, Stopped, checks};
 use weights::{Language, Places};
 
 // The step that a number means.
@@ -31,33 +30,23 @@ fn step_of(x: u32) -> Step
 fn is_step(n: usize, x: u32) -> bool
     ensures { result ≡ is_step n x }
 {
-    if (x as usize) < n {
-        return true;
-    }
-    if x < FIRST_SETTLE {
-        return false;
-    }
-    ((x - FIRST_SETTLE) as usize) < n
+    (x as usize) < n || FIRST_SETTLE <= x && ((x - FIRST_SETTLE) as usize) < n
 }
 
 // 13, then 7 at the first number that is no step.
-fn check_list(n: usize, list: &[u32]) -> Check
+fn check_list(n: usize, list: &[u32]) -> Result<(), Refusal>
     ensures { result ≡ check_of (many_case list.now ∷ list_case n list.now ∷ []) }
 {
     if MOST_STEPS < list.len() {
-        return Check::Refused(Refusal::TooMany { which: 0, place: 0 });
+        return Err(Refusal::TooMany { which: 0, place: 0 });
     }
-    let mut k: usize = 0;
-    while k < list.len() {
+    for k in 0..list.len() {
         if !is_step(n, list[k]) {
-            return Check::Refused(Refusal::NoSuch {
-                which: 0,
-                place: k as u32,
-            });
+            let place = k as u32;
+            return Err(Refusal::NoSuch { which: 0, place });
         }
-        k += 1;
     }
-    Check::Passed
+    Ok(())
 }
 
 // One step; false where it is refused 11, and nothing is written then.
@@ -81,44 +70,28 @@ fn run(p: Places, n: usize, a: &[u32], r: &mut [u32], list: &[u32]) -> u32
     ensures value { result ≡ run_done (places_of p) n a.now r.old (map step_of list.now) }
     ensures r_after { r.new ≡ run_left (places_of p) n a.now r.old (map step_of list.now) }
 {
-    let mut done: usize = 0;
-    while done < list.len() {
+    for done in 0..list.len() {
         if !one_step(p, n, a, r, list[done]) {
             return done as u32;
         }
-        done += 1;
     }
-    done as u32
+    list.len() as u32
 }
 
 // Runs a list of steps on r. Refuses 3, 5, 4, 9, 10, 6 on A and R, 13, 7, and 11 while running: then the earlier steps stand.
-pub fn steps(l: Language, n: u32, a: &[u32], r: &mut [u32], list: &[u32]) -> StepsAnswer
+pub fn steps(l: Language, n: u32, a: &[u32], r: &mut [u32], list: &[u32]) -> Result<u32, Stopped>
     ensures result_value { steps_said result ≡ steps_row (on_network l n a.now) r.old list.now }
     ensures r_after { r.new ≡ steps_left (on_network l n a.now) r.old list.now }
 {
-    match checks::ready(l, n, a, r) {
-        Ready::Refused(x) => StepsAnswer::Refused {
-            refusal: x,
-            done: 0,
-        },
-        Ready::Given(p) => match check_list(n as usize, list) {
-            Check::Refused(x) => StepsAnswer::Refused {
-                refusal: x,
-                done: 0,
-            },
-            Check::Passed => {
-                let done = run(p, n as usize, a, r, list);
-                if (done as usize) < list.len() {
-                    return StepsAnswer::Refused {
-                        refusal: Refusal::Sum {
-                            which: 0,
-                            place: done,
-                        },
-                        done,
-                    };
-                }
-                StepsAnswer::Done(done)
-            }
-        },
+    let p = checks::ready(l, n, a, r)?;
+    check_list(n as usize, list)?;
+    let done = run(p, n as usize, a, r, list);
+    if (done as usize) < list.len() {
+        let refusal = Refusal::Sum {
+            which: 0,
+            place: done,
+        };
+        return Err(Stopped { refusal, done });
     }
+    Ok(done)
 }

@@ -1,4 +1,4 @@
-use Prim.Native.Nat.{◌-◌, ◌≤◌}
+use Prim.Native.Nat.{◌≤◌}
 use mathlib.Core.Path.{◌≡◌}
 use mathlib.Core.List.{[], ◌∷◌}
 use lib.ListN.{length, drop}
@@ -8,6 +8,3 @@ use Rattle.steps.proofs.check_list.Given as goal
 
 abbrev pub invariant-loop-k : goal.invariant-loop-k
 invariant-loop-k l = (l.k ≤ length l.list) × (first_of ((many_case l.list).check ∷ (list_case l.n l.list).check ∷ []) ≡ steps_from l.n l.k (drop l.k l.list))
-
-abbrev pub decreases-loop-k : goal.decreases-loop-k
-decreases-loop-k l = length l.list - l.k

@@ -1,5 +1,5 @@
 use mathlib.Core.List.{[]}
-use native.Mathlib.Omega.{arith}
+use Rattle.std.proofs.Common.{arith, length, ◌≡◌, ◌∙◌}
 use Rattle.routes.proofs.Lists.{running_none, running_more, running_stop, running_all, steps_here}
 use Rattle.steps.proofs.run.Goals as goal
 
@@ -16,4 +16,5 @@ pub loop-done-preserved : goal.loop-done-preserved
 loop-done-preserved c = (omega arith, running_more c.args.p c.args.n c.args.a.now c.args.r.now c.args.list.now c.loop-done.done c.loop-done.r _ c.loop-done.invariant.1 c.loop-done-test.true c.one_step.ensures.r_after c.one_step.ensures.value c.if-not-one_step.false)
 
 pub returns : goal.returns
-returns c = let whole = running_all c.args.p c.args.n c.args.a.now c.args.r.now c.args.list.now c.loop-done.done c.loop-done.r [] c.loop-done.invariant.1 (omega arith) in record { value = whole.0; r_after = whole.1 }
+returns c = let e : length c.args.list.now ≡ c.loop-done.done = omega arith in
+    let whole = running_all c.args.p c.args.n c.args.a.now c.args.r.now c.args.list.now c.loop-done.done c.loop-done.r [] c.loop-done.invariant.1 (omega arith) in record { value = e ∙ whole.0; r_after = whole.1 }
