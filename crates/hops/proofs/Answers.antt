@@ -3,7 +3,7 @@ use Prim.Native.Nat.{ℕ, zero, suc, ◌+◌, ◌≤◌, ◌<◌}
 use mathlib.Core.Path.{◌≡◌, refl, sym, ap, ap₂, ◌∙◌}
 use mathlib.Core.Bool.{Bool, cond, not, ◌&&◌, ◌||◌}
 use mathlib.Core.List.{List, [], ◌∷◌}
-use mathlib.Core.Option.{Option, some, none as nothing}
+use Rattle.std.specs.Prelude.{Option, Some, None, Ok, Err}
 use native.Mathlib.Omega.{arith}
 use lib.Dec.{eqb}
 use lib.ListN.{length}
@@ -33,14 +33,13 @@ use Rattle.hops.specs.Calls.{hop_check, HopRow, hop_row, hop_said}
 use Rattle.guards.specs.OnNetwork.{OnNetwork, components, matrix_on, arcs_on}
 use Rattle.guards.specs.Entrance.{Placed}
 use Rattle.numbers.specs.declared.Node.{Node}
-use Rattle.std.specs.Prelude.{Ok, Err}
 
 -- ---- in the places and in the language
 
 lowest_cong : (t u : ℕ → Bool) (k c : ℕ) → ((m : ℕ) → m < k + c → t m ≡ u m) → lowest_from t k c ≡ lowest_from u k c
 unfolding lowest_from
 lowest_cong t u k zero e = refl
-lowest_cong t u k (suc c) e = ap₂ (λ (b : Bool) (o : Option ℕ). cond b (some k) o) (e k (omega arith)) (lowest_cong t u (suc k) c (λ m h. e m (omega arith)))
+lowest_cong t u k (suc c) e = ap₂ (λ (b : Bool) (o : Option ℕ). cond b (Some k) o) (e k (omega arith)) (lowest_cong t u (suc k) c (λ m h. e m (omega arith)))
 
 module _ (cs : List Component) (p : Places) (h : length cs ≤ places) (placed : places_of p ≡ padded places cs) (sound : Sound cs) (n : ℕ) (A B R S : Matrix)
     (arcs : GoesTo (language cs) (language (places_of p)) (Valid cs) (pad_weight places) n A B) (routes : GoesTo (language cs) (language (places_of p)) (Valid cs) (pad_weight places) n R S) where
@@ -53,14 +52,14 @@ module _ (cs : List Component) (p : Places) (h : length cs ≤ places) (placed :
 
   pub hop_goes : (i j : ℕ) → i < n → j < n → hop_of (places_of p) n B S i j ≡ hop_of cs n A R i j
   hop_goes i j hi hj =
-      ap₂ (λ (b : Bool) (o : Option ℕ). cond (eqb i j || b) nothing o) (same_go (routes i j hi hj) (record { kind = tt; to = refl }))
+      ap₂ (λ (b : Bool) (o : Option ℕ). cond (eqb i j || b) None o) (same_go (routes i j hi hj) (record { kind = tt; to = refl }))
       (lowest_cong _ _ 0 n (λ k hk. test_goes i j k hi hj (omega arith)))
 
 -- ---- the call
 
 -- the row by what the checks give
 abbrev pub hop_row_by : Check → Option ℕ → HopRow
-hop_row_by c k = record { told = answer_told c; node = if_passed c k nothing }
+hop_row_by c k = record { told = answer_told c; node = if_passed c k None }
 
 module _ (N : OnNetwork) (r : List ℕ) (i j : ℕ) where
   open N use {n, arcs}

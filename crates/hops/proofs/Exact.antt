@@ -3,7 +3,7 @@ use Prim.Native.Nat.{ℕ}
 use mathlib.Core.Path.{◌≡◌, refl, ap, ◌∙◌}
 use mathlib.Core.List.{List, [], ◌∷◌}
 use mathlib.Core.Logic.{◌↔◌}
-use mathlib.Core.Option.{Option, some}
+use Rattle.std.specs.Prelude.{Option, Some, None, Ok, Err}
 use native.Mathlib.Omega.{arith}
 use Rattle.hops.specs.NextHop.{hop_of, NextHop}
 use Rattle.hops.specs.Calls.{hop_check, hop_row, hop_cases}
@@ -15,7 +15,6 @@ use Rattle.guards.proofs.Cases.{node_exact}
 use Rattle.refusals.proofs.Cases.{told_exactly, no_more, ◌and◌}
 use Rattle.guards.specs.OnNetwork.{OnNetwork, components, matrix_on, arcs_on}
 use Rattle.refusals.specs.Checks.{Check}
-use Rattle.std.specs.Prelude.{Ok, Err}
 
 module _ (N : OnNetwork) (r : List ℕ) (i j : ℕ) where
   open N use {n, arcs}
@@ -32,9 +31,9 @@ module _ (N : OnNetwork) (r : List ℕ) (i j : ℕ) where
   hop_told = told_exactly (hop_cases N r i j) (matrices_exact N r (node_exact 0 n i and node_exact 1 n j and no_more)) (hop_row N r i j).told refl
 
   -- it gives node k exactly when its checks pass and k is the next hop
-  pub hop_given : (k : ℕ) → ((hop_row N r i j).node ≡ some k) ↔ ((hop_check N r i j ≡ Ok tt) × NextHop (components N) n (arcs_on N) (matrix_on N r) i j k)
+  pub hop_given : (k : ℕ) → ((hop_row N r i j).node ≡ Some k) ↔ ((hop_check N r i j ≡ Ok tt) × NextHop (components N) n (arcs_on N) (matrix_on N r) i j k)
   hop_given k = (λ e. there (hop_check N r i j) refl e, λ h. ap (λ (c : Check). (hop_row_by c rule).node) h.0 ∙ (hop_exactly (components N) n (arcs_on N) (matrix_on N r) i j k).1 h.1)
     where
-      there : (c : Check) → hop_check N r i j ≡ c → (hop_row_by c rule).node ≡ some k → (hop_check N r i j ≡ Ok tt) × NextHop (components N) n (arcs_on N) (matrix_on N r) i j k
+      there : (c : Check) → hop_check N r i j ≡ c → (hop_row_by c rule).node ≡ Some k → (hop_check N r i j ≡ Ok tt) × NextHop (components N) n (arcs_on N) (matrix_on N r) i j k
       there (Ok _) p e = (p, (hop_exactly (components N) n (arcs_on N) (matrix_on N r) i j k).0 e)
       there (Err x) p e = absurd (let z : ◌≡◌ {A = ℕ} 0 1 = cc in omega arith)

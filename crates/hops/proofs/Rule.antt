@@ -4,7 +4,7 @@ use mathlib.Core.Path.{◌≡◌, refl, sym, ap, ◌∙◌}
 use mathlib.Core.Bool.{Bool, true, false, cond, not, ◌&&◌, ◌||◌}
 use mathlib.Core.List.{List}
 use mathlib.Core.Logic.{◌⊎◌, inl, inr, ⊎_elim, ◌↔◌}
-use mathlib.Core.Option.{Option, some, none as nothing}
+use Rattle.std.specs.Prelude.{Option, Some, None}
 use native.Mathlib.Nat.{eq-or-lt_of_le}
 use native.Mathlib.Omega.{arith}
 use lib.Dec.{eqb, ltb}
@@ -19,10 +19,10 @@ use Rattle.hops.specs.NextHop.{is_hop, lowest_from, hop_of, ArcGivesWeight, Next
 
 -- ---- the lowest number that passes a test
 
-nothing_some : {k : ℕ} → ◌≡◌ {A = Option ℕ} nothing (some k) → ⊥
+nothing_some : {k : ℕ} → ◌≡◌ {A = Option ℕ} None (Some k) → ⊥
 nothing_some e = let z : ◌≡◌ {A = ℕ} 0 1 = cc in omega arith
 
-pub some_one : {k m : ℕ} → some k ≡ some m → k ≡ m
+pub some_one : {k m : ℕ} → Some k ≡ Some m → k ≡ m
 some_one e = cc
 
 module _ (test : ℕ → Bool) where
@@ -33,12 +33,12 @@ module _ (test : ℕ → Bool) where
     passes : test m ≡ true
     earlier : (v : ℕ) → k ≤ v → v < m → test v ≡ false
 
-  lowest_is : (k c m : ℕ) → lowest_from test k c ≡ some m → Lowest k c m
+  lowest_is : (k c m : ℕ) → lowest_from test k c ≡ Some m → Lowest k c m
   unfolding lowest_from
   lowest_is k zero m e = absurd (nothing_some e)
   lowest_is k (suc c) m e = go (test k) refl e (lowest_is (suc k) c m)
     where
-      go : (b : Bool) → test k ≡ b → cond b (some k) (lowest_from test (suc k) c) ≡ some m → (lowest_from test (suc k) c ≡ some m → Lowest (suc k) c m) → Lowest k (suc c) m
+      go : (b : Bool) → test k ≡ b → cond b (Some k) (lowest_from test (suc k) c) ≡ Some m → (lowest_from test (suc k) c ≡ Some m → Lowest (suc k) c m) → Lowest k (suc c) m
       go true p q ih = let z = some_one q in record { from = omega arith; below = omega arith; passes = ap test (sym z) ∙ p; earlier = λ v h l. absurd (omega arith) }
       go false p q ih =
           let o = ih q in
@@ -49,12 +49,12 @@ module _ (test : ℕ → Bool) where
           at_first_lem : (v : ℕ) → k ≤ v → (suc k ≤ v → v < m → test v ≡ false) → v < m → test v ≡ false
           at_first_lem v a later b = ⊎_elim (λ z. ap test (sym z) ∙ p) (λ l. later l b) (eq-or-lt_of_le a)
 
-  nothing_is : (k c : ℕ) → lowest_from test k c ≡ nothing → (v : ℕ) → k ≤ v → v < k + c → test v ≡ false
+  nothing_is : (k c : ℕ) → lowest_from test k c ≡ None → (v : ℕ) → k ≤ v → v < k + c → test v ≡ false
   unfolding lowest_from
   nothing_is k zero e v a b = absurd (omega arith)
   nothing_is k (suc c) e v a b = go (test k) refl e (nothing_is (suc k) c)
     where
-      go : (b : Bool) → test k ≡ b → cond b (some k) (lowest_from test (suc k) c) ≡ nothing → (lowest_from test (suc k) c ≡ nothing → (v : ℕ) → suc k ≤ v → v < suc k + c → test v ≡ false) → test v ≡ false
+      go : (b : Bool) → test k ≡ b → cond b (Some k) (lowest_from test (suc k) c) ≡ None → (lowest_from test (suc k) c ≡ None → (v : ℕ) → suc k ≤ v → v < suc k + c → test v ≡ false) → test v ≡ false
       go true p q ih = absurd (nothing_some (sym q))
       go false p q ih = ⊎_elim (λ z. ap test (sym z) ∙ p) (λ l. ih q v l (omega arith)) (eq-or-lt_of_le a)
 
@@ -79,10 +79,10 @@ module _ (cs : List Component) (n : ℕ) (A R : Matrix) (i j : ℕ) where
       go true e = absurd (g ((same_exactly (R i j) none).0 e))
       go false e = refl
 
-  found : (k : ℕ) → hop_of cs n A R i j ≡ some k → NextHop cs n A R i j k
+  found : (k : ℕ) → hop_of cs n A R i j ≡ Some k → NextHop cs n A R i j k
   found k e = go (eqb i j) (same (R i j) none) refl refl e
     where
-      go : (a b : Bool) → eqb i j ≡ a → same (R i j) none ≡ b → cond (a || b) nothing (lowest_from (is_hop cs A R i j) 0 n) ≡ some k → NextHop cs n A R i j k
+      go : (a b : Bool) → eqb i j ≡ a → same (R i j) none ≡ b → cond (a || b) None (lowest_from (is_hop cs A R i j) 0 n) ≡ Some k → NextHop cs n A R i j k
       go true b p q h = absurd (nothing_some h)
       go false true p q h = absurd (nothing_some h)
       go false false p q h =
@@ -96,12 +96,12 @@ module _ (cs : List Component) (n : ℕ) (A R : Matrix) (i j : ℕ) where
             lowest = λ m less g. clash (is_hop cs A R i j m) (is_test m g) (o.earlier m (omega arith) less);
           }
 
-  back : (k : ℕ) → NextHop cs n A R i j k → hop_of cs n A R i j ≡ some k
+  back : (k : ℕ) → NextHop cs n A R i j k → hop_of cs n A R i j ≡ Some k
   back k h = rw (shut h.apart h.route) (go (lowest_from (is_hop cs A R i j) 0 n) refl)
     where
-      go : (o : Option ℕ) → lowest_from (is_hop cs A R i j) 0 n ≡ o → o ≡ some k
-      go nothing e = let l = h.hop.below in clash (is_hop cs A R i j k) (is_test k h.hop) (nothing_is (is_hop cs A R i j) 0 n e k (omega arith) (omega arith))
-      go (some m) e = ap some (only (ltb m k) (ltb k m) refl refl)
+      go : (o : Option ℕ) → lowest_from (is_hop cs A R i j) 0 n ≡ o → o ≡ Some k
+      go None e = let l = h.hop.below in clash (is_hop cs A R i j k) (is_test k h.hop) (nothing_is (is_hop cs A R i j) 0 n e k (omega arith) (omega arith))
+      go (Some m) e = ap Some (only (ltb m k) (ltb k m) refl refl)
         where
           o : Lowest (is_hop cs A R i j) 0 n m
           o = lowest_is (is_hop cs A R i j) 0 n m e
@@ -118,21 +118,21 @@ module _ (cs : List Component) (n : ℕ) (A R : Matrix) (i j : ℕ) where
           only false false p q = omega (arith, ltb-false m k p, ltb-false k m q)
 
   -- The rule gives k exactly when k is the next hop.
-  pub hop_exactly : (k : ℕ) → (hop_of cs n A R i j ≡ some k) ↔ NextHop cs n A R i j k
+  pub hop_exactly : (k : ℕ) → (hop_of cs n A R i j ≡ Some k) ↔ NextHop cs n A R i j k
   hop_exactly k = (found k, back k)
 
   -- None where i = j, where R(i,j) is no route, or where no such k exists.
-  pub no_hop_exactly : (hop_of cs n A R i j ≡ nothing) ↔ ((i ≡ j) ⊎ (R i j ≡ none) ⊎ ((k : ℕ) → ArcGivesWeight cs n A R i j k → ⊥))
+  pub no_hop_exactly : (hop_of cs n A R i j ≡ None) ↔ ((i ≡ j) ⊎ (R i j ≡ none) ⊎ ((k : ℕ) → ArcGivesWeight cs n A R i j k → ⊥))
   no_hop_exactly = (λ e. there (eqb i j) (same (R i j) none) refl refl e, here)
     where
-      there : (a b : Bool) → eqb i j ≡ a → same (R i j) none ≡ b → cond (a || b) nothing (lowest_from (is_hop cs A R i j) 0 n) ≡ nothing → (i ≡ j) ⊎ (R i j ≡ none) ⊎ ((k : ℕ) → ArcGivesWeight cs n A R i j k → ⊥)
+      there : (a b : Bool) → eqb i j ≡ a → same (R i j) none ≡ b → cond (a || b) None (lowest_from (is_hop cs A R i j) 0 n) ≡ None → (i ≡ j) ⊎ (R i j ≡ none) ⊎ ((k : ℕ) → ArcGivesWeight cs n A R i j k → ⊥)
       there true b p q h = inl (eqb-true i j p)
       there false true p q h = inr (inl ((same_exactly (R i j) none).0 q))
       there false false p q h = inr (inr (λ k g. let l = g.below in clash (is_hop cs A R i j k) (is_test k g) (nothing_is (is_hop cs A R i j) 0 n h k (omega arith) (omega arith))))
 
-      here : (i ≡ j) ⊎ (R i j ≡ none) ⊎ ((k : ℕ) → ArcGivesWeight cs n A R i j k → ⊥) → hop_of cs n A R i j ≡ nothing
+      here : (i ≡ j) ⊎ (R i j ≡ none) ⊎ ((k : ℕ) → ArcGivesWeight cs n A R i j k → ⊥) → hop_of cs n A R i j ≡ None
       here d = go (hop_of cs n A R i j) refl
         where
-          go : (o : Option ℕ) → hop_of cs n A R i j ≡ o → o ≡ nothing
-          go nothing e = refl
-          go (some k) e = let h = found k e in absurd (⊎_elim h.apart (⊎_elim h.route (λ f. f k h.hop)) d)
+          go : (o : Option ℕ) → hop_of cs n A R i j ≡ o → o ≡ None
+          go None e = refl
+          go (Some k) e = let h = found k e in absurd (⊎_elim h.apart (⊎_elim h.route (λ f. f k h.hop)) d)

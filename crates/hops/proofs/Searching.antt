@@ -3,7 +3,7 @@ use Prim.Native.Nat.{ℕ, suc, ◌+◌, ◌-◌, ◌≤◌, ◌<◌}
 use mathlib.Core.Path.{◌≡◌, sym, ap, ap₂, ◌∙◌}
 use mathlib.Core.Bool.{Bool, true, false, cond, ◌||◌, or-true}
 use mathlib.Core.List.{List}
-use mathlib.Core.Option.{Option, some, none as nothing}
+use Rattle.std.specs.Prelude.{Option, Some, None}
 use native.Mathlib.Omega.{arith}
 use native.Mathlib.Numerals.{add-one}
 use lib.Dec.{eqb}
@@ -40,7 +40,7 @@ module _ (test : ℕ → Bool) where
   lowest_start n = let e : n ≡ n - 0 = omega arith in ap (lowest_from test 0) e
 
   -- the search from k on stops at k ..
-  pub lowest_here : (n k : ℕ) → k < n → test k ≡ true → lowest_from test k (n - k) ≡ some k
+  pub lowest_here : (n k : ℕ) → k < n → test k ≡ true → lowest_from test k (n - k) ≡ Some k
   unfolding lowest_from
   lowest_here n k h e = ap (lowest_from test k) (left n k h) ∙ rw e
 
@@ -49,17 +49,17 @@ module _ (test : ℕ → Bool) where
   unfolding lowest_from
   lowest_later n k h e = ap (lowest_from test k) (left n k h) ∙ rw (e, add-one k)
 
-  pub lowest_end : (n k : ℕ) → n ≤ k → lowest_from test k (n - k) ≡ nothing
+  pub lowest_end : (n k : ℕ) → n ≤ k → lowest_from test k (n - k) ≡ None
   unfolding lowest_from
   lowest_end n k h = let e : n - k ≡ 0 = omega arith in ap (lowest_from test k) e
 
 -- ---- where there is none
 
-pub hop_same : (cs : List Component) (n : ℕ) (A R : Matrix) (i j : ℕ) → i ≡ j → nothing ≡ hop_of cs n A R i j
+pub hop_same : (cs : List Component) (n : ℕ) (A R : Matrix) (i j : ℕ) → i ≡ j → None ≡ hop_of cs n A R i j
 hop_same cs n A R i j e = rw (eq-eqb i j e)
 
-pub hop_none : (cs : List Component) (n : ℕ) (A R : Matrix) (i j : ℕ) → none ≡ R i j → nothing ≡ hop_of cs n A R i j
+pub hop_none : (cs : List Component) (n : ℕ) (A R : Matrix) (i j : ℕ) → none ≡ R i j → None ≡ hop_of cs n A R i j
 hop_none cs n A R i j e = rw (← e, or-true (eqb i j))
 
 pub hop_some : (cs : List Component) (n : ℕ) (A R : Matrix) (i j : ℕ) {xs : List ℕ} {f : Option ℕ} → (i ≡ j → ⊥) → route xs ≡ R i j → f ≡ lowest_from (is_hop cs A R i j) 0 n → f ≡ hop_of cs n A R i j
-hop_some cs n A R i j d e g = g ∙ ap₂ (λ (a b : Bool). cond (a || b) nothing (lowest_from (is_hop cs A R i j) 0 n)) (sym (ne_eqb i j d)) (ap (λ (w : Weight). same w none) e)
+hop_some cs n A R i j d e g = g ∙ ap₂ (λ (a b : Bool). cond (a || b) None (lowest_from (is_hop cs A R i j) 0 n)) (sym (ne_eqb i j d)) (ap (λ (w : Weight). same w none) e)

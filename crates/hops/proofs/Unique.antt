@@ -2,7 +2,7 @@
 use Prim.Native.Nat.{ℕ}
 use mathlib.Core.Path.{◌≡◌, refl, sym, ap, ◌∙◌}
 use mathlib.Core.List.{List}
-use mathlib.Core.Option.{Option, some, none as nothing}
+use Rattle.std.specs.Prelude.{Option, Some, None, Result, Ok, Err}
 use native.Mathlib.Omega.{arith}
 use Rattle.refusals.proofs.OneToOne.{told_one, told_not_done}
 use Rattle.numbers.specs.declared.Node.{Node}
@@ -10,13 +10,12 @@ use Rattle.hops.specs.NextHop.{found_at}
 use Rattle.hops.specs.Calls.{HopRow, hop_row, hop_said}
 use Rattle.hops.proofs.Rule.{some_one}
 use Rattle.guards.specs.OnNetwork.{OnNetwork}
-use Rattle.std.specs.Prelude.{Result, Ok, Err, Some, None}
 use Rattle.refusals.specs.declared.Refusal.{Refusal}
 
 node_one : (k m : Node) → k.0 ≡ m.0 → k ≡ m
 node_one k m e = λ i. record { 0 = e i }
 
-some_not : {k : ℕ} → ◌≡◌ {A = Option ℕ} (some k) nothing → ⊥
+some_not : {k : ℕ} → ◌≡◌ {A = Option ℕ} (Some k) None → ⊥
 some_not e = let z : ◌≡◌ {A = ℕ} 1 0 = cc in omega arith
 
 pub found_one : (f g : Option Node) → found_at f ≡ found_at g → f ≡ g

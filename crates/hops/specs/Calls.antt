@@ -1,11 +1,10 @@
 -- The call `next_hop`: its cases in 01's order, and its answer.
 -- To be believed: all of it.
-use Rattle.std.specs.Prelude.{ℕ, List, [], ◌∷◌, Result, Ok, Err, Some, None}
-use Rattle.std.proofs.Math.Option.{Option, some, none as nothing}
+use Rattle.std.specs.Prelude.{ℕ, List, [], ◌∷◌, Result, Ok, Err, Some, None, Option}
 use Rattle.refusals.specs.declared.Told.{Told}
 use Rattle.refusals.specs.Told.{told, done}
 use Rattle.routes.specs.Calls.{matrices_cases}
-use Rattle.hops.specs.NextHop.{hop_of}
+use Rattle.hops.specs.NextHop.{hop_of, found_at}
 use Rattle.refusals.specs.Cases.{Case, check_of}
 use Rattle.refusals.specs.Checks.{answer_told, if_passed, Check}
 use Rattle.guards.specs.Checks.{node_case}
@@ -30,11 +29,10 @@ pub record HopRow : Type 0 where
 abbrev pub hop_row : OnNetwork → List ℕ → ℕ → ℕ → HopRow
 hop_row N r i j = record {
   told = answer_told (hop_check N r i j);
-  node = if_passed (hop_check N r i j) (hop_of (components N) N.n (arcs_on N) (matrix_on N r) i j) nothing;
+  node = if_passed (hop_check N r i j) (hop_of (components N) N.n (arcs_on N) (matrix_on N r) i j) None;
 }
 
 -- what the code's answer says
 abbrev pub hop_said : Result (Option Node) Refusal → HopRow
-hop_said (Ok (Some node)) = record { told = done; node = some node.0 }
-hop_said (Ok None) = record { told = done; node = nothing }
-hop_said (Err x) = record { told = told x; node = nothing }
+hop_said (Ok found) = record { told = done; node = found_at found }
+hop_said (Err x) = record { told = told x; node = None }

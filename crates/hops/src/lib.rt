@@ -3,20 +3,3 @@
 
 pub mod next_hop;
 pub mod search;
-
-use numbers::Node;
-use refusals::Refusal;
-
-// What a search over the nodes finds.
-#[derive(Clone, Copy)]
-pub enum HopFound {
-    At(Node),
-    Nothing,
-}
-
-#[derive(Clone, Copy)]
-pub enum HopAnswer {
-    Hop(Node),
-    NoHop,
-    Refused(Refusal),
-}

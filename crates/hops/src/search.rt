@@ -7,7 +7,6 @@ ghost use Rattle.matrices.specs.Buffers.{matrix_in};
 ghost use Rattle.matrices.specs.Steps.{Given};
 ghost use Rattle.hops.specs.NextHop.{is_hop, lowest_from, hop_of, found_at};
 
-use super::HopFound;
 use numbers::Node;
 use weights::{Places, WEIGHT_WORDS, Weight};
 
@@ -30,8 +29,7 @@ fn is_hop(
     }
     let x = words::weight_at(a, i * (n * WEIGHT_WORDS) + k * WEIGHT_WORDS);
     let y = words::weight_at(r, k * (n * WEIGHT_WORDS) + j * WEIGHT_WORDS);
-    let through = weights::joining::join(p, x, y);
-    weights::comparing::same(through, route)
+    weights::comparing::same(weights::joining::join(p, x, y), route)
 }
 
 // The lowest hop, by a loop that yields the found node, or none.
@@ -43,41 +41,35 @@ fn lowest_hop(
     i: usize,
     j: usize,
     route: Weight,
-) -> HopFound
+) -> Option<Node>
     requires { Given (places_of p) n a.now r.now × (i < n) × (j < n) × (weight_of route ≡ matrix_in places n r.now i j) }
     ensures { found_at result ≡ lowest_from (is_hop (places_of p) (matrix_in places n a.now) (matrix_in places n r.now) i j) 0 n }
 {
     let mut k: usize = 0;
-    let found = loop {
+    loop {
         if n <= k {
-            break HopFound::Nothing;
+            break None;
         }
         if is_hop(p, n, a, r, i, j, k, route) {
-            break HopFound::At(Node(k));
+            break Some(Node(k));
         }
         k += 1;
-    };
-    found
+    }
 }
 
 // The next hop: none where i = j and where R(i,j) is no route.
-pub fn hop(p: Places, n: usize, a: &[u32], r: &[u32], from: Node, to: Node) -> HopFound
+pub fn hop(p: Places, n: usize, a: &[u32], r: &[u32], from: Node, to: Node) -> Option<Node>
     requires { Given (places_of p) n a.now r.now × (from.0 < n) × (to.0 < n) }
     ensures { found_at result ≡ hop_of (places_of p) n (matrix_in places n a.now) (matrix_in places n r.now) from.0 to.0 }
 {
     let i = from.0;
     let j = to.0;
     if i == j {
-        return HopFound::Nothing;
+        return None;
     }
     let route = words::weight_at(r, i * (n * WEIGHT_WORDS) + j * WEIGHT_WORDS);
     match route {
-        Weight::Route {
-            first: _,
-            second: _,
-            third: _,
-            fourth: _,
-        } => lowest_hop(p, n, a, r, i, j, route),
-        Weight::NoRoute => HopFound::Nothing,
+        Weight::Route { .. } => lowest_hop(p, n, a, r, i, j, route),
+        Weight::NoRoute => None,
     }
 }

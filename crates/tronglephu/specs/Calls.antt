@@ -1,8 +1,7 @@
 -- What each exported function answers and leaves: the row of its call's own definition, in four numbers. The buffers that fresh,
 -- steps and forward leave are those calls' own.
 -- To be believed: all of it.
-use Rattle.std.specs.Prelude.{ℕ, cond, List, [], ◌∷◌, ◌++◌, eqb, drop}
-use Rattle.std.proofs.Math.Option.{Option, some, none as nothing}
+use Rattle.std.specs.Prelude.{ℕ, cond, List, [], ◌∷◌, ◌++◌, eqb, drop, Option, Some, None}
 use Rattle.refusals.specs.Checks.{answer_told, if_passed, Check}
 use Rattle.refusals.specs.declared.Told.{Told}
 use Rattle.refusals.specs.Cases.{Case, check_of}
@@ -107,8 +106,8 @@ forward_reply T f = reply_of (answer_told (forward_check T f)) 0
 
 -- the node, or 255 for none
 abbrev pub node_or_none : Option ℕ → ℕ
-node_or_none (some node) = node
-node_or_none nothing = 255
+node_or_none (Some node) = node
+node_or_none None = 255
 
 -- 0 on a refusal
 abbrev pub hop_reply_of : HopRow → Reply

@@ -4,17 +4,8 @@ use Rattle.weights.specs.Sizes.{places}
 use Rattle.weights.specs.Languages.{places_of}
 use Rattle.matrices.specs.Buffers.{matrix_in}
 use Rattle.hops.specs.NextHop.{is_hop}
-use Rattle.hops.proofs.Searching.{lowest_start, lowest_here, lowest_later, lowest_end}
+use Rattle.hops.proofs.Searching.{lowest_here, lowest_later, lowest_end}
 use Rattle.hops.proofs.search.lowest_hop.Goals as goal
-
-pub loop-k-init : goal.loop-k-init
-loop-k-init c = let a = c.args in (omega arith, lowest_start (is_hop (places_of a.p) (matrix_in places a.n a.a.now) (matrix_in places a.n a.r.now) a.i a.j) a.n)
-
-pub is_hop-requires : goal.is_hop-requires
-is_hop-requires c = (c.requires.0, c.requires.1, c.requires.2, omega arith, c.requires.3)
-
-pub overflow_add-k : goal.overflow_add-k
-overflow_add-k c = let f = c.requires.0.arcs.square.few in omega arith
 
 pub loop-k-preserved : goal.loop-k-preserved
 loop-k-preserved c = let a = c.args in (
