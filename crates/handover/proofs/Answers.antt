@@ -21,7 +21,8 @@ use Rattle.weights.proofs.Checking.{few}
 use Rattle.matrices.specs.Buffers.{matrix_words, matrix_in, Square}
 use Rattle.routes.proofs.Bridge.{buffer_goes, embedded, words_go}
 use Rattle.guards.proofs.Singles.{nodes_passed, length_passed, node_passed}
-use Rattle.handover.specs.declared.LenderAnswer.TheVariants.{Newer, Standing, Refused as LenderRefused}
+use Rattle.handover.specs.declared.Lender.TheVariants.{Newer, Standing}
+use Rattle.std.specs.Prelude.{Ok, Err}
 use Rattle.handover.specs.Calls.{handover_check, best_words, is_best, LenderRow, lender_row, lender_said, row_part, lent_row, row_start, lent_start, handover_cases}
 use Rattle.handover.specs.Parts.{HandoverChecked}
 use Rattle.refusals.specs.Cases.{checks_of}
@@ -44,7 +45,7 @@ module _ (N : OnNetwork) (standing newer : List ℕ) (i : ℕ) where
 
   -- ---- the lender
 
-  pub lender_refused : (x : Refusal) → check ≡ Err x → lender_said (LenderRefused x) ≡ lender_row N standing newer i
+  pub lender_refused : (x : Refusal) → check ≡ Err x → lender_said (Err x) ≡ lender_row N standing newer i
   lender_refused x e = ap (λ (c : Check). lender_row_by c is_new) (sym e)
 
   module _ (p : Places) (k : HandoverChecked N standing newer i p) {b : Bool} (q : b ≡ same_values newer (matrix_words n (best (language (places_of p)) n (matrix_in places n arcs)))) where
@@ -60,31 +61,31 @@ module _ (N : OnNetwork) (standing newer : List ℕ) (i : ℕ) where
     told_by : lender_row_by (Ok tt) b ≡ lender_row N standing newer i
     told_by = ap (lender_row_by (Ok tt)) (q ∙ ap (same_values newer) best_same) ∙ ap (λ (c : Check). lender_row_by c is_new) (sym k.passes)
 
-    pub lender_newer : b ≡ true → lender_said Newer ≡ lender_row N standing newer i
+    pub lender_newer : b ≡ true → lender_said (Ok Newer) ≡ lender_row N standing newer i
     lender_newer t = ap (lender_row_by (Ok tt)) (sym t) ∙ told_by
 
-    pub lender_standing : b ≡ false → lender_said Standing ≡ lender_row N standing newer i
+    pub lender_standing : b ≡ false → lender_said (Ok Standing) ≡ lender_row N standing newer i
     lender_standing t = ap (lender_row_by (Ok tt)) (sym t) ∙ told_by
 
   -- ---- what the lender's answer says
 
-  pub newer_says : lender_said Newer ≡ lender_row N standing newer i → (check ≡ Ok tt) × (is_new ≡ true)
+  pub newer_says : lender_said (Ok Newer) ≡ lender_row N standing newer i → (check ≡ Ok tt) × (is_new ≡ true)
   newer_says e = go check is_new refl refl e
     where
-      go : (c : Check) (b : Bool) → check ≡ c → is_new ≡ b → lender_said Newer ≡ lender_row_by c b → (check ≡ Ok tt) × (is_new ≡ true)
+      go : (c : Check) (b : Bool) → check ≡ c → is_new ≡ b → lender_said (Ok Newer) ≡ lender_row_by c b → (check ≡ Ok tt) × (is_new ≡ true)
       go (Ok _) true p q h = (p, q)
       go (Ok _) false p q h = absurd (let z : ◌≡◌ {A = ℕ} 2 5 = ap (λ (w : LenderRow). w.buffer) h in omega arith)
       go (Err x) b p q h = absurd (told_not_done x (sym (ap (λ (w : LenderRow). w.told) h)))
 
-  pub standing_says : lender_said Standing ≡ lender_row N standing newer i → (check ≡ Ok tt) × (is_new ≡ false)
+  pub standing_says : lender_said (Ok Standing) ≡ lender_row N standing newer i → (check ≡ Ok tt) × (is_new ≡ false)
   standing_says e = go check is_new refl refl e
     where
-      go : (c : Check) (b : Bool) → check ≡ c → is_new ≡ b → lender_said Standing ≡ lender_row_by c b → (check ≡ Ok tt) × (is_new ≡ false)
+      go : (c : Check) (b : Bool) → check ≡ c → is_new ≡ b → lender_said (Ok Standing) ≡ lender_row_by c b → (check ≡ Ok tt) × (is_new ≡ false)
       go (Ok _) true p q h = absurd (let z : ◌≡◌ {A = ℕ} 5 2 = ap (λ (w : LenderRow). w.buffer) h in omega arith)
       go (Ok _) false p q h = (p, q)
       go (Err x) b p q h = absurd (told_not_done x (sym (ap (λ (w : LenderRow). w.told) h)))
 
-  pub refused_says : (x : Refusal) → lender_said (LenderRefused x) ≡ lender_row N standing newer i → check ≡ Err x
+  pub refused_says : (x : Refusal) → lender_said (Err x) ≡ lender_row N standing newer i → check ≡ Err x
   refused_says x e = go check refl (ap (λ (w : LenderRow). w.told) e)
     where
       go : (c : Check) → check ≡ c → told x ≡ (lender_row_by c is_new).told → check ≡ Err x
@@ -111,34 +112,34 @@ module _ (N : OnNetwork) (standing newer : List ℕ) (i : ℕ) where
         node = node_passed 0 n i h.1.1.1.1.1.1.1.1.1.0;
       }
 
-  pub row_newer : lender_said Newer ≡ lender_row N standing newer i → row_part n i newer ≡ lent_row N standing newer i
+  pub row_newer : lender_said (Ok Newer) ≡ lender_row N standing newer i → row_part n i newer ≡ lent_row N standing newer i
   row_newer e = let h = newer_says e in ap₂ (λ (c : Check) (b : Bool). if_passed c (cond b (row_part n i newer) (row_part n i standing)) []) (sym h.0) (sym h.1)
 
-  pub row_standing : lender_said Standing ≡ lender_row N standing newer i → row_part n i standing ≡ lent_row N standing newer i
+  pub row_standing : lender_said (Ok Standing) ≡ lender_row N standing newer i → row_part n i standing ≡ lent_row N standing newer i
   row_standing e = let h = standing_says e in ap₂ (λ (c : Check) (b : Bool). if_passed c (cond b (row_part n i newer) (row_part n i standing)) []) (sym h.0) (sym h.1)
 
-  pub row_refused : (x : Refusal) → lender_said (LenderRefused x) ≡ lender_row N standing newer i → [] ≡ lent_row N standing newer i
+  pub row_refused : (x : Refusal) → lender_said (Err x) ≡ lender_row N standing newer i → [] ≡ lent_row N standing newer i
   row_refused x e = ap (λ (c : Check). if_passed c (cond is_new (row_part n i newer) (row_part n i standing)) []) (sym (refused_says x e))
 
   -- ---- where it stands
 
   module _ (v w : ℕ × ℕ) where
-    pub start_newer : lender_said Newer ≡ lender_row N standing newer i → row_start n i w ≡ lent_start N standing newer i v w
+    pub start_newer : lender_said (Ok Newer) ≡ lender_row N standing newer i → row_start n i w ≡ lent_start N standing newer i v w
     start_newer e = let h = newer_says e in ap₂ (λ (c : Check) (b : Bool). if_passed c (cond b (row_start n i w) (row_start n i v)) v) (sym h.0) (sym h.1)
 
-    pub start_standing : lender_said Standing ≡ lender_row N standing newer i → row_start n i v ≡ lent_start N standing newer i v w
+    pub start_standing : lender_said (Ok Standing) ≡ lender_row N standing newer i → row_start n i v ≡ lent_start N standing newer i v w
     start_standing e = let h = standing_says e in ap₂ (λ (c : Check) (b : Bool). if_passed c (cond b (row_start n i w) (row_start n i v)) v) (sym h.0) (sym h.1)
 
-    pub start_refused : (x : Refusal) → lender_said (LenderRefused x) ≡ lender_row N standing newer i → v ≡ lent_start N standing newer i v w
+    pub start_refused : (x : Refusal) → lender_said (Err x) ≡ lender_row N standing newer i → v ≡ lent_start N standing newer i v w
     start_refused x e = ap (λ (c : Check). if_passed c (cond is_new (row_start n i w) (row_start n i v)) v) (sym (refused_says x e))
 
   -- ---- the refusal
 
-  pub told_newer : lender_said Newer ≡ lender_row N standing newer i → answer_told (Ok tt) ≡ answer_told check
+  pub told_newer : lender_said (Ok Newer) ≡ lender_row N standing newer i → answer_told (Ok tt) ≡ answer_told check
   told_newer e = ap answer_told (sym (newer_says e).0)
 
-  pub told_standing : lender_said Standing ≡ lender_row N standing newer i → answer_told (Ok tt) ≡ answer_told check
+  pub told_standing : lender_said (Ok Standing) ≡ lender_row N standing newer i → answer_told (Ok tt) ≡ answer_told check
   told_standing e = ap answer_told (sym (standing_says e).0)
 
-  pub told_refused : (x : Refusal) → lender_said (LenderRefused x) ≡ lender_row N standing newer i → answer_told (Err x) ≡ answer_told check
+  pub told_refused : (x : Refusal) → lender_said (Err x) ≡ lender_row N standing newer i → answer_told (Err x) ≡ answer_told check
   told_refused x e = ap answer_told (sym (refused_says x e))

@@ -5,8 +5,9 @@ use mathlib.Core.List.{List}
 use native.Mathlib.Omega.{arith}
 use Rattle.refusals.specs.Checks.{answer_told, Check}
 use Rattle.refusals.proofs.OneToOne.{told_one, told_not_done, answer_one}
-use Rattle.handover.specs.declared.LenderAnswer.{LenderAnswer}
-use Rattle.handover.specs.declared.LenderAnswer.TheVariants.{Newer, Standing, Refused as LenderRefused}
+use Rattle.handover.specs.declared.Lender.{Lender}
+use Rattle.handover.specs.declared.Lender.TheVariants.{Newer, Standing}
+use Rattle.std.specs.Prelude.{Result, Ok, Err}
 use Rattle.handover.specs.Calls.{handover_check, LenderRow, lender_row, lender_said, lent_row, lent_start}
 use Rattle.handover.specs.Parts.{HandoverReady}
 use Rattle.guards.specs.OnNetwork.{OnNetwork}
@@ -15,19 +16,19 @@ use Rattle.std.specs.Prelude.{Result}
 use Rattle.weights.specs.declared.Places.{Places}
 use Rattle.refusals.specs.declared.Refusal.{Refusal}
 
-lender_one : (x y : LenderAnswer) → lender_said x ≡ lender_said y → x ≡ y
-lender_one Newer Newer e = refl
-lender_one Newer Standing e = absurd (let z : ◌≡◌ {A = ℕ} 2 5 = ap (λ (w : LenderRow). w.buffer) e in omega arith)
-lender_one Newer (LenderRefused r) e = absurd (told_not_done r (sym (ap (λ (w : LenderRow). w.told) e)))
-lender_one Standing Newer e = absurd (let z : ◌≡◌ {A = ℕ} 5 2 = ap (λ (w : LenderRow). w.buffer) e in omega arith)
-lender_one Standing Standing e = refl
-lender_one Standing (LenderRefused r) e = absurd (told_not_done r (sym (ap (λ (w : LenderRow). w.told) e)))
-lender_one (LenderRefused r) Newer e = absurd (told_not_done r (ap (λ (w : LenderRow). w.told) e))
-lender_one (LenderRefused r) Standing e = absurd (told_not_done r (ap (λ (w : LenderRow). w.told) e))
-lender_one (LenderRefused r) (LenderRefused s) e = ap LenderRefused (told_one r s (ap (λ (w : LenderRow). w.told) e))
+lender_one : (x y : Result Lender Refusal) → lender_said x ≡ lender_said y → x ≡ y
+lender_one (Ok Newer) (Ok Newer) e = refl
+lender_one (Ok Newer) (Ok Standing) e = absurd (let z : ◌≡◌ {A = ℕ} 2 5 = ap (λ (w : LenderRow). w.buffer) e in omega arith)
+lender_one (Ok Newer) (Err r) e = absurd (told_not_done r (sym (ap (λ (w : LenderRow). w.told) e)))
+lender_one (Ok Standing) (Ok Newer) e = absurd (let z : ◌≡◌ {A = ℕ} 5 2 = ap (λ (w : LenderRow). w.buffer) e in omega arith)
+lender_one (Ok Standing) (Ok Standing) e = refl
+lender_one (Ok Standing) (Err r) e = absurd (told_not_done r (sym (ap (λ (w : LenderRow). w.told) e)))
+lender_one (Err r) (Ok Newer) e = absurd (told_not_done r (ap (λ (w : LenderRow). w.told) e))
+lender_one (Err r) (Ok Standing) e = absurd (told_not_done r (ap (λ (w : LenderRow). w.told) e))
+lender_one (Err r) (Err s) e = ap Err (told_one r s (ap (λ (w : LenderRow). w.told) e))
 
 module _ (N : OnNetwork) (standing newer : List ℕ) (i : ℕ) where
-  pub lender_answers_equal : (x y : LenderAnswer) → lender_said x ≡ lender_row N standing newer i → lender_said y ≡ lender_row N standing newer i → x ≡ y
+  pub lender_answers_equal : (x y : Result Lender Refusal) → lender_said x ≡ lender_row N standing newer i → lender_said y ≡ lender_row N standing newer i → x ≡ y
   lender_answers_equal x y p q = lender_one x y (p ∙ sym q)
 
   pub refusal_answers_equal : (x y : Check) → answer_told x ≡ answer_told (handover_check N standing newer i) → answer_told y ≡ answer_told (handover_check N standing newer i) → x ≡ y

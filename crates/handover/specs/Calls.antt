@@ -9,8 +9,10 @@ use Rattle.weights.specs.Sizes.{weight_words}
 use Rattle.weights.specs.Weights.{language}
 use Rattle.weights.specs.Values.{same_values}
 use Rattle.matrices.specs.Buffers.{matrix_words}
-use Rattle.handover.specs.declared.LenderAnswer.{LenderAnswer}
-use Rattle.handover.specs.declared.LenderAnswer.TheVariants.{Newer, Standing, Refused as LenderRefused}
+use Rattle.handover.specs.declared.Lender.{Lender}
+use Rattle.handover.specs.declared.Lender.TheVariants.{Newer, Standing}
+use Rattle.std.specs.Prelude.{Result, Ok, Err}
+use Rattle.refusals.specs.declared.Refusal.{Refusal}
 use Rattle.refusals.specs.Cases.{Case, check_of}
 use Rattle.guards.specs.Checks.{arcs_case, length_case, node_case, nodes_case, call_cases}
 use Rattle.refusals.specs.Checks.{answer_told, if_passed, Check}
@@ -51,10 +53,10 @@ lender_row N standing newer i = record {
 }
 
 -- what the code's answer says
-abbrev pub lender_said : LenderAnswer → LenderRow
-lender_said Newer = record { told = done; buffer = 2 }
-lender_said Standing = record { told = done; buffer = 5 }
-lender_said (LenderRefused x) = record { told = told x; buffer = 0 }
+abbrev pub lender_said : Result Lender Refusal → LenderRow
+lender_said (Ok Newer) = record { told = done; buffer = 2 }
+lender_said (Ok Standing) = record { told = done; buffer = 5 }
+lender_said (Err x) = record { told = told x; buffer = 0 }
 
 -- ---- the row that is lent
 

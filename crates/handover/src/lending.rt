@@ -5,10 +5,9 @@ ghost use Rattle.matrices.specs.Buffers.{Square};
 ghost use Rattle.guards.specs.OnNetwork.{on_network};
 ghost use Rattle.handover.specs.Calls.{row_part, row_start, handover_check, lender_row, lender_said, lent_row, lent_start};
 
-use super::{LenderAnswer, checks};
-use guards::Ready;
+use super::{Lender, checks};
 use holding::comparing;
-use refusals::Answer;
+use refusals::Refusal;
 use weights::{Language, WEIGHT_WORDS};
 
 // Which matrix lends: the new one where every entry of it is the best, else the standing one. Refuses 3, 5, 4, 9, 10, 6 on A, 7.
@@ -19,18 +18,14 @@ pub fn lender(
     standing: &[u32],
     newer: &[u32],
     i: u32,
-) -> LenderAnswer
+) -> Result<Lender, Refusal>
     ensures { lender_said result ≡ lender_row (on_network l n a.now) standing.now newer.now i }
 {
-    match checks::ready(l, n, a, standing, newer, i) {
-        Ready::Refused(x) => LenderAnswer::Refused(x),
-        Ready::Given(p) => {
-            if comparing::all_best(p, n as usize, a, newer) {
-                return LenderAnswer::Newer;
-            }
-            LenderAnswer::Standing
-        }
+    let p = checks::ready(l, n, a, standing, newer, i)?;
+    if comparing::all_best(p, n as usize, a, newer) {
+        return Ok(Lender::Newer);
     }
+    Ok(Lender::Standing)
 }
 
 // Row i of a matrix, lent.
@@ -41,8 +36,7 @@ fn row_of<'b>(s: &'b [u32], n: usize, i: usize) -> &'b [u32]
 {
     let words = n * WEIGHT_WORDS;
     let at = i * words;
-    let end = at + words;
-    &s[at..end]
+    &s[at..at + words]
 }
 
 // Row i of the new matrix or of the standing one, lent and not copied; an empty part where the call refuses.
@@ -58,9 +52,9 @@ pub fn lent_row<'b>(
     ensures ref_ptr_value { result.ref_ptr ≡ lent_start (on_network l n a.now) standing.now newer.now i standing.entry.ref_ptr newer.entry.ref_ptr }
 {
     match lender(l, n, a, standing, newer, i) {
-        LenderAnswer::Newer => row_of(newer, n as usize, i as usize),
-        LenderAnswer::Standing => row_of(standing, n as usize, i as usize),
-        LenderAnswer::Refused(_) => &standing[0..0],
+        Ok(Lender::Newer) => row_of(newer, n as usize, i as usize),
+        Ok(Lender::Standing) => row_of(standing, n as usize, i as usize),
+        Err(_) => &standing[0..0],
     }
 }
 
@@ -72,12 +66,9 @@ pub fn which_refusal(
     standing: &[u32],
     newer: &[u32],
     i: u32,
-) -> Answer
+) -> Result<(), Refusal>
     ensures { answer_told result ≡ answer_told (handover_check (on_network l n a.now) standing.now newer.now i) }
 {
-    match lender(l, n, a, standing, newer, i) {
-        LenderAnswer::Newer => Answer::Done,
-        LenderAnswer::Standing => Answer::Done,
-        LenderAnswer::Refused(x) => Answer::Refused(x),
-    }
+    lender(l, n, a, standing, newer, i)?;
+    Ok(())
 }

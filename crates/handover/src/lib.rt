@@ -4,12 +4,9 @@
 pub mod checks;
 pub mod lending;
 
-use refusals::Refusal;
-
 // The matrix that lends the row.
-#[derive(Clone, Copy)]
-pub enum LenderAnswer {
+#[derive(Clone, Copy, Debug, PartialEq, Eq)]
+pub enum Lender {
     Newer,
     Standing,
-    Refused(Refusal),
 }

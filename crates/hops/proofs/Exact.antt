@@ -3,7 +3,7 @@ use Prim.Native.Nat.{ℕ}
 use mathlib.Core.Path.{◌≡◌, refl, ap, ◌∙◌}
 use mathlib.Core.List.{List, [], ◌∷◌}
 use mathlib.Core.Logic.{◌↔◌}
-use Rattle.std.specs.Prelude.{Option, Some, None, Ok, Err}
+use Rattle.std.specs.Prelude.{Option, Some, Ok, Err}
 use native.Mathlib.Omega.{arith}
 use Rattle.hops.specs.NextHop.{hop_of, NextHop}
 use Rattle.hops.specs.Calls.{hop_check, hop_row, hop_cases}

@@ -25,14 +25,9 @@ found_one None (Some m) e = absurd (some_not (sym e))
 found_one None None e = refl
 
 hop_one : (x y : Result (Option Node) Refusal) → hop_said x ≡ hop_said y → x ≡ y
-hop_one (Ok (Some k)) (Ok (Some m)) e = ap HOP (node_one k m (some_one (ap (λ (w : HopRow). w.node) e)))
-hop_one (Ok (Some k)) (Ok None) e = absurd (some_not (ap (λ (w : HopRow). w.node) e))
-hop_one (Ok (Some k)) (Err r) e = absurd (told_not_done r (sym (ap (λ (w : HopRow). w.told) e)))
-hop_one (Ok None) (Ok (Some m)) e = absurd (some_not (sym (ap (λ (w : HopRow). w.node) e)))
-hop_one (Ok None) (Ok None) e = refl
-hop_one (Ok None) (Err r) e = absurd (told_not_done r (sym (ap (λ (w : HopRow). w.told) e)))
-hop_one (Err r) (Ok (Some m)) e = absurd (told_not_done r (ap (λ (w : HopRow). w.told) e))
-hop_one (Err r) (Ok None) e = absurd (told_not_done r (ap (λ (w : HopRow). w.told) e))
+hop_one (Ok f) (Ok g) e = ap Ok (found_one f g (ap (λ (w : HopRow). w.node) e))
+hop_one (Ok f) (Err r) e = absurd (told_not_done r (sym (ap (λ (w : HopRow). w.told) e)))
+hop_one (Err r) (Ok g) e = absurd (told_not_done r (ap (λ (w : HopRow). w.told) e))
 hop_one (Err r) (Err s) e = ap Err (told_one r s (ap (λ (w : HopRow). w.told) e))
 
 pub hop_answers_equal : (N : OnNetwork) (r : List ℕ) (i j : ℕ) (x y : Result (Option Node) Refusal) → hop_said x ≡ hop_row N r i j → hop_said y ≡ hop_row N r i j → x ≡ y

@@ -1,6 +1,6 @@
 -- The call `next_hop`: its cases in 01's order, and its answer.
 -- To be believed: all of it.
-use Rattle.std.specs.Prelude.{ℕ, List, [], ◌∷◌, Result, Ok, Err, Some, None, Option}
+use Rattle.std.specs.Prelude.{ℕ, List, [], ◌∷◌, Result, Ok, Err, None, Option}
 use Rattle.refusals.specs.declared.Told.{Told}
 use Rattle.refusals.specs.Told.{told, done}
 use Rattle.routes.specs.Calls.{matrices_cases}
