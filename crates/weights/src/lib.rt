@@ -71,6 +71,30 @@ pub enum Comparison {
     Worse,
 }
 
+// One thing for each place of a language.
+#[derive(Clone, Copy, Default)]
+pub struct PerPlace<T> {
+    pub first: T,
+    pub second: T,
+    pub third: T,
+    pub fourth: T,
+}
+
+impl Places {
+    // What f makes of the component in each place.
+    pub fn map<T, F: Fn(Component) -> T>(self, f: F) -> PerPlace<T>
+        requires { F.IsAlwaysCallable f }
+        ensures { F.post f self.first result.first × F.post f self.second result.second × F.post f self.third result.third × F.post f self.fourth result.fourth }
+    {
+        PerPlace {
+            first: f(self.first),
+            second: f(self.second),
+            third: f(self.third),
+            fourth: f(self.fourth),
+        }
+    }
+}
+
 // What the words of a weight stand for.
 #[derive(Clone, Copy)]
 pub enum Read {
