@@ -2,10 +2,10 @@
 // A language is nine numbers: the count, then kind (1 dist, 2 width, 3 class, 4 gain) and limit for each of four places.
 #![tactic(auto)]
 
-use laws::{Law, LawAnswer, Words};
+use laws::{Law, LawReport, Witness};
 use refusals::Refusal;
 use std::io;
-use weights::{Component, Language};
+use weights::{Component, Language, PerPlace};
 
 // A line, as far as it is read: whether a number is being read, that number, and those before it.
 #[derive(Clone, Copy)]
@@ -55,21 +55,21 @@ fn language(numbers: [u32; 9]) -> Language {
     }
 }
 
-fn print_words(rt: &impl Print, name: &[u8], w: Words) -> io::Result<()> {
+fn print_words(rt: &impl Print, name: &[u8], w: PerPlace<u32>) -> io::Result<()> {
     rt.write_all(name)?;
     print!(rt; "{} {} {} {}", w.first, w.second, w.third, w.fourth)
 }
 
 fn print_law(rt: &impl Print, name: &[u8], law: Law) -> io::Result<()> {
     rt.write_all(name)?;
-    if law.held {
-        rt.write_all(b" held:")?;
-    } else {
-        rt.write_all(b" broken:")?;
+    match law {
+        Law::Held => rt.write_all(b" held:")?,
+        Law::BrokenBy(_) => rt.write_all(b" broken:")?,
     }
-    print_words(rt, b" s ", law.s)?;
-    print_words(rt, b" x ", law.x)?;
-    print_words(rt, b" y ", law.y)?;
+    let Witness { s, x, y } = law.witness();
+    print_words(rt, b" s ", s)?;
+    print_words(rt, b" x ", x)?;
+    print_words(rt, b" y ", y)?;
     rt.write_all(b"\n")
 }
 
@@ -80,12 +80,12 @@ fn print_refusal(rt: &impl Print, r: Refusal) -> io::Result<()> {
 
 fn print_report(rt: &impl Print, l: Language) -> io::Result<()> {
     match laws::laws(l) {
-        LawAnswer::Laws { d, u, c } => {
+        Ok(LawReport { d, u, c }) => {
             print_law(rt, b"D", d)?;
             print_law(rt, b"U", u)?;
             print_law(rt, b"C", c)
         }
-        LawAnswer::Refused(r) => print_refusal(rt, r),
+        Err(r) => print_refusal(rt, r),
     }
 }
 
