@@ -33,6 +33,7 @@ pub fn is_gain(c: Component) -> bool
     matches!(c, Component::Gain)
 }
 
+// The limit for width, else 0.
 pub fn unit_value(c: Component) -> u32
     ensures { result ≡ unit_value c }
 {
@@ -42,6 +43,7 @@ pub fn unit_value(c: Component) -> u32
     }
 }
 
+// 1 for width, the limit for class.
 pub fn worst(c: Component) -> u32
     ensures { result ≡ worst c }
 {
@@ -52,7 +54,7 @@ pub fn worst(c: Component) -> u32
     }
 }
 
-// The worse of worst and unit, of 1 and 0 (dist), of 0 and 1 (gain).
+// Of two of its values the worse: of worst and unit, of 1 and 0 (dist), of 0 and 1 (gain).
 pub fn worse_of_two(c: Component) -> u32
     ensures { result ≡ worse_of_two c }
 {
@@ -63,7 +65,7 @@ pub fn worse_of_two(c: Component) -> u32
     }
 }
 
-// .. and the better.
+// Of the same two the better.
 pub fn better_of_two(c: Component) -> u32
     ensures { result ≡ better_of_two c }
 {
