@@ -66,15 +66,36 @@ pub fn units(p: Places) -> PerPlace<u32>
     p.map(unit_value)
 }
 
-// Law D: no width or class that forgets has a later component that is not trivial.
+// Law D holds: no width or class that forgets has a later component that is not trivial.
+pub fn has_d(p: Places) -> bool
+    ensures { result ≡ test_d (places_of p) }
+{
+    !some_flag(before_flag(p.map(lossy), p.map(non_trivial)))
+}
+
+// Law U holds: no component is a gain.
+pub fn has_u(p: Places) -> bool
+    ensures { result ≡ test_u (places_of p) }
+{
+    !some_flag(p.map(is_gain))
+}
+
+// Law C holds: no width or class forgets what it joins.
+pub fn has_c(p: Places) -> bool
+    ensures { result ≡ test_c (places_of p) }
+{
+    !some_flag(p.map(lossy))
+}
+
+// Law D, held or broken.
 fn law_d(p: Places) -> Law
     ensures { law_of result ≡ law_row (test_d (places_of p)) (s_d (places_of p)) (x_d (places_of p)) (y_d (places_of p)) }
 {
-    let varying = p.map(non_trivial);
-    let breaking = before_flag(p.map(lossy), varying);
-    if !some_flag(breaking) {
+    if has_d(p) {
         return Law::Held;
     }
+    let varying = p.map(non_trivial);
+    let breaking = before_flag(p.map(lossy), varying);
     let later = after_flag(breaking, varying);
     let u = units(p);
     let s = over_at(breaking, p.map(worst), u);
@@ -83,53 +104,30 @@ fn law_d(p: Places) -> Law
     Law::BrokenBy(Witness { s, x, y })
 }
 
-// Law U: no component is a gain. Its s and y are zeros.
+// Law U, held or broken. Its s and y are zeros.
 fn law_u(p: Places) -> Law
     ensures { law_of result ≡ law_row (test_u (places_of p)) [] (x_u (places_of p)) [] }
 {
-    let gains = p.map(is_gain);
-    if !some_flag(gains) {
+    if has_u(p) {
         return Law::Held;
     }
-    let x = over_at(gains, p.map(|_| 1), units(p));
+    let x = over_at(p.map(is_gain), p.map(|_| 1), units(p));
     Law::BrokenBy(Witness {
         x,
         ..Witness::default()
     })
 }
 
-// Law C: no width or class forgets what it joins.
+// Law C, held or broken.
 fn law_c(p: Places) -> Law
     ensures { law_of result ≡ law_row (test_c (places_of p)) (s_c (places_of p)) (unit_values (places_of p)) (s_c (places_of p)) }
 {
-    let breaking = p.map(lossy);
-    if !some_flag(breaking) {
+    if has_c(p) {
         return Law::Held;
     }
     let x = units(p);
-    let s = over_at(breaking, p.map(worst), x);
+    let s = over_at(p.map(lossy), p.map(worst), x);
     Law::BrokenBy(Witness { s, x, y: s })
-}
-
-// Law D holds.
-pub fn has_d(p: Places) -> bool
-    ensures { result ≡ test_d (places_of p) }
-{
-    law_d(p).is_held()
-}
-
-// Law U holds.
-pub fn has_u(p: Places) -> bool
-    ensures { result ≡ test_u (places_of p) }
-{
-    law_u(p).is_held()
-}
-
-// Law C holds.
-pub fn has_c(p: Places) -> bool
-    ensures { result ≡ test_c (places_of p) }
-{
-    law_c(p).is_held()
 }
 
 // The law report of a language; it refuses 5, then 4.
