@@ -18,7 +18,7 @@ use Rattle.algebra.proofs.Orders.{best_of_same}
 use Rattle.algebra.proofs.Reach.{run_append}
 use Rattle.algebra.proofs.Settling.{best_by_sweeps}
 use Rattle.weights.specs.declared.Component.{Component}
-use Rattle.weights.specs.declared.Places.{Places}
+use Rattle.weights.specs.declared.PerPlace.{PerPlace}
 use Rattle.weights.specs.Sizes.{places, weight_words, arc_sum, matrix_sum}
 use Rattle.weights.specs.Weights.{Weight, none, join, better_of, unit, language}
 use Rattle.weights.specs.Languages.{places_of}
@@ -73,19 +73,19 @@ renewed_all cs f v z z' k n e p q = e ∙ ap₂ (λ (m : ℕ) (w : Weight). best
 -- ---- the rounds of a pass
 
 -- the first m rows of the column s₀ have been passed
-pub record Passing (p : Places) (n : ℕ) (a : List ℕ) (j : ℕ) (s₀ : List ℕ) (m : ℕ) (s : List ℕ) : Type 0 where
+pub record Passing (p : PerPlace Component) (n : ℕ) (a : List ℕ) (j : ℕ) (s₀ : List ℕ) (m : ℕ) (s : List ℕ) : Type 0 where
   pub holds : s ≡ row_words n (passed (places_of p) n (matrix_in places n a) j m (row_in places s₀)) ++ drop (n * weight_words) s₀
   pub long : length s ≡ length s₀
 
-pub passing_none : (p : Places) (n : ℕ) (a : List ℕ) (j : ℕ) (s : List ℕ) → s ≡ row_words n (row_in places s) ++ drop (n * weight_words) s → Passing p n a j s 0 s
+pub passing_none : (p : PerPlace Component) (n : ℕ) (a : List ℕ) (j : ℕ) (s : List ℕ) → s ≡ row_words n (row_in places s) ++ drop (n * weight_words) s → Passing p n a j s 0 s
 unfolding passed
 passing_none p n a j s h = record { holds = h; long = refl }
 
-pub passing_all : (p : Places) (n : ℕ) (a : List ℕ) (j : ℕ) (s₀ : List ℕ) (m : ℕ) (s : List ℕ) → Passing p n a j s₀ m s → m ≡ n
+pub passing_all : (p : PerPlace Component) (n : ℕ) (a : List ℕ) (j : ℕ) (s₀ : List ℕ) (m : ℕ) (s : List ℕ) → Passing p n a j s₀ m s → m ≡ n
     → s ≡ row_words n (passed (places_of p) n (matrix_in places n a) j n (row_in places s₀)) ++ drop (n * weight_words) s₀
 passing_all p n a j s₀ m s t e = t.holds ∙ ap (λ (v : ℕ). row_words n (passed (places_of p) n (matrix_in places n a) j v (row_in places s₀)) ++ drop (n * weight_words) s₀) e
 
-module _ (p : Places) (n : ℕ) (a : List ℕ) (g : GivenArcs (places_of p) n a) (j : ℕ) where
+module _ (p : PerPlace Component) (n : ℕ) (a : List ℕ) (g : GivenArcs (places_of p) n a) (j : ℕ) where
   renewed_within : (b : ℕ) (c : ℕ → Weight) → ((k : ℕ) → k < n → Within b (places_of p) (c k)) → (i : ℕ) → i < n → Within (arc_sum + b) (places_of p) (renewed (places_of p) n (matrix_in places n a) j c i)
   renewed_within b c h i hi =
       within_best (arc_sum + b) (places_of p) n (via (places_of p) (matrix_in places n a) c i) (fresh (language (places_of p)) i j)
@@ -166,25 +166,25 @@ fresh_sym : (cs : List Component) (i j : ℕ) → fresh (language cs) i j ≡ fr
 fresh_sym cs i j = ap (λ (b : Bool). cond b (unit cs) none) (eqb_sym i j)
 
 -- the matrix after k sweeps of the fresh one
-abbrev pub swept : Places → ℕ → List ℕ → ℕ → Matrix
+abbrev pub swept : PerPlace Component → ℕ → List ℕ → ℕ → Matrix
 swept p n a k = reached (language (places_of p)) n (matrix_in places n a) (sweeps n k)
 
 -- k passes have been made, and column j of k sweeps stands over s₀
-pub record Settling (p : Places) (n : ℕ) (a : List ℕ) (j : ℕ) (s₀ : List ℕ) (k : ℕ) (s : List ℕ) : Type 0 where
+pub record Settling (p : PerPlace Component) (n : ℕ) (a : List ℕ) (j : ℕ) (s₀ : List ℕ) (k : ℕ) (s : List ℕ) : Type 0 where
   pub holds : s ≡ row_words n (column (swept p n a k) j) ++ drop (n * weight_words) s₀
   pub long : length s ≡ length s₀
 
-pub settling_none : (p : Places) (n : ℕ) (a : List ℕ) (j : ℕ) (s₀ s z : List ℕ) → s ≡ row_words n (fresh (language (places_of p)) j) ++ z → s₀ ≡ s → Settling p n a j s₀ 0 s
+pub settling_none : (p : PerPlace Component) (n : ℕ) (a : List ℕ) (j : ℕ) (s₀ s z : List ℕ) → s ≡ row_words n (fresh (language (places_of p)) j) ++ z → s₀ ≡ s → Settling p n a j s₀ 0 s
 settling_none p n a j s₀ s z e q = record {
   holds = e ∙ ap₂ (λ (x y : List ℕ). x ++ y) (row_cong n (fresh (language (places_of p)) j) (column (fresh (language (places_of p))) j) (λ i _. fresh_sym (places_of p) j i))
       (sym (ap (drop (n * weight_words)) (q ∙ e) ∙ drop_at (row_words n (fresh (language (places_of p)) j)) z (n * weight_words) (length_row n _)));
   long = ap length (sym q);
 }
 
-pub settling_next : (p : Places) (n : ℕ) (a : List ℕ) (j : ℕ) (s₀ : List ℕ) (t : ℕ) (s : List ℕ) → 1 ≤ t → Settling p n a j s₀ (suc (t - 1)) s → Settling p n a j s₀ (t + 1 - 1) s
+pub settling_next : (p : PerPlace Component) (n : ℕ) (a : List ℕ) (j : ℕ) (s₀ : List ℕ) (t : ℕ) (s : List ℕ) → 1 ≤ t → Settling p n a j s₀ (suc (t - 1)) s → Settling p n a j s₀ (t + 1 - 1) s
 settling_next p n a j s₀ t s h r = let e : suc (t - 1) ≡ t + 1 - 1 = omega arith in subst (λ (k : ℕ). Settling p n a j s₀ k s) e r
 
-module _ (p : Places) (n : ℕ) (a : List ℕ) (g : GivenArcs (places_of p) n a) (j : ℕ) where
+module _ (p : PerPlace Component) (n : ℕ) (a : List ℕ) (g : GivenArcs (places_of p) n a) (j : ℕ) where
   module _ (s₀ : List ℕ) (room : n * weight_words ≤ length s₀) where
     settling_entry : (k : ℕ) (s : List ℕ) → Settling p n a j s₀ k s → (i : ℕ) → i < n → row_in places s i ≡ column (swept p n a k) j i
     settling_entry k s t i hi =

@@ -8,8 +8,13 @@ use lib.Seq.{sets, sets-eq}
 use Rattle.weights.specs.declared.Component.{Component}
 use Rattle.weights.specs.declared.Component.TheVariants.{Dist, Width, Class, Gain}
 use Rattle.weights.specs.declared.Language.{Language}
+use Rattle.laws.specs.declared.Law.{Law}
+use Rattle.laws.specs.declared.Law.TheVariants.{Held, BrokenBy}
+use Rattle.laws.specs.declared.LawReport.{LawReport}
+use Rattle.laws.specs.Report.{law_of}
 use Rattle.door.specs.Languages.{place_numbers}
 use Rattle.door.specs.Problems.{problem_words, problem_of}
+use Rattle.door.specs.Reports.{report_words, law_words, laws_words}
 
 -- two parts, the second stored after the first, are one part
 pub sets_after : (vs ws l : List ℕ) (i j : ℕ) → j ≡ i + length vs → sets (sets l i vs) j ws ≡ sets l i (vs ++ ws)
@@ -58,3 +63,21 @@ problem_stored s n m mode l h e₁ e₂ e₃ e₄ e₅ e₆ =
     let d₅ = after s 0 8 front₄ (place_numbers l.third) d₄ e₅ (omega arith) in
     let d₆ = after s 0 10 front₅ (place_numbers l.fourth) d₅ e₆ (omega arith) in
     front s (front₅ ++ place_numbers l.fourth) problem_words d₆ long₆ h
+
+-- a law has twelve words
+law_long : (w : Law) → length (law_words (law_of w)) ≡ 12
+law_long Held = refl
+law_long (BrokenBy w) = refl
+
+-- the words of a report, stored law by law
+pub laws_stored : (s : List ℕ) {s₁ s₂ s₃ : List ℕ} (r : LawReport) → report_words ≤ length s
+    → s₁ ≡ sets s 0 (law_words (law_of r.d)) → s₂ ≡ sets s₁ 12 (law_words (law_of r.u)) → s₃ ≡ sets s₂ 24 (law_words (law_of r.c))
+    → s₃ ≡ laws_words (law_of r.d) (law_of r.u) (law_of r.c) ++ drop report_words s
+laws_stored s r h e₁ e₂ e₃ =
+    let d = law_words (law_of r.d) in
+    let u = law_words (law_of r.u) in
+    let c = law_words (law_of r.c) in
+    let a = law_long r.d in
+    let long₂ : length (d ++ u) ≡ 24 = length-append d u ∙ (let b = law_long r.u in omega arith) in
+    let long₃ : length (d ++ u ++ c) ≡ report_words = length-append (d ++ u) c ∙ (let b = law_long r.c in omega arith) in
+    front s (d ++ u ++ c) report_words (after s 0 24 (d ++ u) c (after s 0 12 d u e₁ e₂ (omega arith)) e₃ (omega arith)) long₃ h

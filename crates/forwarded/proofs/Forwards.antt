@@ -16,7 +16,7 @@ use Rattle.algebra.proofs.Orders.{best_of_same}
 use Rattle.weights.specs.declared.Component.{Component}
 use Rattle.weights.specs.declared.Component.TheVariants.{Class}
 use Rattle.weights.specs.declared.Language.{Language}
-use Rattle.weights.specs.declared.Places.{Places}
+use Rattle.weights.specs.declared.PerPlace.{PerPlace}
 use Rattle.weights.specs.Sizes.{places, arc_sum, matrix_sum, table_sum}
 use Rattle.weights.specs.Weights.{Valid, language}
 use Rattle.weights.specs.Languages.{components_of, padded, places_of, SmallLimits}
@@ -49,7 +49,7 @@ use Rattle.std.specs.Prelude.{Ok}
 
 -- ---- the places of a language
 
-abbrev places_for : Language → Places
+abbrev places_for : Language → PerPlace Component
 places_for l = record { first = cond (ltb 0 l.count) l.first (Class 0); second = cond (ltb 1 l.count) l.second (Class 0); third = cond (ltb 2 l.count) l.third (Class 0); fourth = cond (ltb 3 l.count) l.fourth (Class 0) }
 
 placed : (l : Language) → places_of (places_for l) ≡ padded places (components_of l)

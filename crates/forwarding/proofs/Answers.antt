@@ -7,7 +7,7 @@ use Rattle.refusals.specs.Checks.{answer_told, Check}
 use Rattle.refusals.proofs.First.{if_passed_lem, if_refused}
 use Rattle.algebra.specs.Modes.{forwarded}
 use Rattle.weights.specs.declared.Component.{Component}
-use Rattle.weights.specs.declared.Places.{Places}
+use Rattle.weights.specs.declared.PerPlace.{PerPlace}
 use Rattle.weights.specs.Sizes.{places, arc_sum}
 use Rattle.weights.specs.Weights.{language}
 use Rattle.weights.specs.Languages.{places_of}
@@ -34,7 +34,7 @@ module _ (T : OnTables) (f : List ℕ) where
   pub forward_refused : (x : Refusal) → forward_check T f ≡ Err x → (answer_told (Err x) ≡ answer_told (forward_check T f)) × (f ≡ forward_left T f)
   forward_refused x e = (ap answer_told (sym e), sym (if_refused (table_words n m (forwarding_sum T)) f e))
 
-  module _ {sized measured : Check} (q : Found T f sized measured) (p : Places) (o : Entered network.language sized measured p) {mode : Mode} (meant : mode ≡ mode_meant T)
+  module _ {sized measured : Check} (q : Found T f sized measured) (p : PerPlace Component) (o : Entered network.language sized measured p) {mode : Mode} (meant : mode ≡ mode_meant T)
       {contained : Check} (qc : contained ≡ contents_check mode (places_of p) n m arcs routes mapping) (e : contained ≡ Ok tt) where
     abbrev table : Mode → List Component → List ℕ
     table k ds = table_words n m (forwarded (language ds) (mode_of k ds) n (matrix_in places n routes) (table_in places m mapping))

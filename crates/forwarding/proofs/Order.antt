@@ -13,7 +13,7 @@ use Rattle.refusals.proofs.First.{unless_passes, both_pass, or_passed, stops, go
 use Rattle.refusals.proofs.Cases.{check_append}
 use Rattle.algebra.proofs.Embedding.{GoesTo}
 use Rattle.weights.specs.declared.Component.{Component}
-use Rattle.weights.specs.declared.Places.{Places}
+use Rattle.weights.specs.declared.PerPlace.{PerPlace}
 use Rattle.weights.specs.Sizes.{places, arc_sum, matrix_sum}
 use Rattle.weights.specs.Weights.{Valid, Sound, language}
 use Rattle.weights.specs.Laws.{test_d, test_u, test_c}
@@ -144,7 +144,7 @@ module _ (T : OnTables) (f : List ℕ) where
     pub forward_stops : {x : Refusal} → entrance_check network.language sized measured ≡ Err x → forward_check T f ≡ Err x
     forward_stops e = entrance_refuses network.language sizes lengths contents sized measured q.as_sizes q.as_lengths e
 
-    module _ (p : Places) (o : Entered network.language sized measured p) where
+    module _ (p : PerPlace Component) (o : Entered network.language sized measured p) where
       pub long : Long
       long =
           long_enough (few_of_both (sizes_passed network.language sizes lengths contents sized measured q.as_sizes q.as_lengths o))

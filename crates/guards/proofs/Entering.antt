@@ -11,7 +11,7 @@ use Rattle.refusals.proofs.First.{unless_passes, both_pass, stops, goes_on, resu
 use Rattle.refusals.proofs.Cases.{AllExact, check_append, in_turn, append_exact, ◌and◌, ◌then◌}
 use Rattle.weights.specs.declared.Component.{Component}
 use Rattle.weights.specs.declared.Language.{Language}
-use Rattle.weights.specs.declared.Places.{Places}
+use Rattle.weights.specs.declared.PerPlace.{PerPlace}
 use Rattle.weights.specs.Sizes.{places}
 use Rattle.weights.specs.Weights.{Sound}
 use Rattle.weights.specs.Laws.{test_d, test_u}
@@ -26,7 +26,7 @@ use Rattle.std.specs.Prelude.{Ok, Err}
 
 -- ---- the laws, in the places and in the language
 
-pub laws_same : (l : Language) (p : Places) → places_of p ≡ padded places (components_of l) → laws_check (places_of p) ≡ laws_check (components_of l)
+pub laws_same : (l : Language) (p : PerPlace Component) → places_of p ≡ padded places (components_of l) → laws_check (places_of p) ≡ laws_check (components_of l)
 laws_same l p e = ap₂ (λ (x y : Bool). first_of (unless x (Law 1 0) ∷ unless y (Law 2 0) ∷ [])) (ap test_d e ∙ test_d_pad places (components_of l) (few l)) (ap test_u e ∙ test_u_pad places (components_of l) (few l))
 
 pub laws_passed : (cs : List Component) → laws_check cs ≡ Ok tt → (test_d cs ≡ true) × (test_u cs ≡ true)
@@ -37,7 +37,7 @@ laws_passed cs e =
 -- ---- what the code finds
 
 module _ (l : Language) (sizes lengths : Check) where
-  module _ (p : Places) (es : sizes ≡ Ok tt) (el : language_check l ≡ Ok tt) (placed : places_of p ≡ padded places (components_of l)) where
+  module _ (p : PerPlace Component) (es : sizes ≡ Ok tt) (el : language_check l ≡ Ok tt) (placed : places_of p ≡ padded places (components_of l)) where
     rest : {c : Check} → result_and lengths (laws_check (places_of p)) ≡ c → entrance_check l sizes lengths ≡ c
     rest e = goes_on es (goes_on el (ap (result_and lengths) (sym (laws_same l p placed)) ∙ e))
 
@@ -84,13 +84,13 @@ module _ (l : Language) (sizes lengths rest : List Case) where
     pub entrance_refuses : {x : Refusal} → entrance_check l found measured ≡ Err x → check_of (call_cases l sizes lengths rest) ≡ Err x
     entrance_refuses e = through ∙ stops _ e
 
-    pub entrance_leaves : {c : Check} {p : Places} → Entered l found measured p → check_of rest ≡ c → check_of (call_cases l sizes lengths rest) ≡ c
+    pub entrance_leaves : {c : Check} {p : PerPlace Component} → Entered l found measured p → check_of rest ≡ c → check_of (call_cases l sizes lengths rest) ≡ c
     entrance_leaves o e = through ∙ goes_on o.passes e
 
-    pub sizes_passed : {p : Places} → Entered l found measured p → check_of sizes ≡ Ok tt
+    pub sizes_passed : {p : PerPlace Component} → Entered l found measured p → check_of sizes ≡ Ok tt
     sizes_passed o = sym es ∙ o.sizes_pass
 
-    pub lengths_passed : {p : Places} → Entered l found measured p → check_of lengths ≡ Ok tt
+    pub lengths_passed : {p : PerPlace Component} → Entered l found measured p → check_of lengths ≡ Ok tt
     lengths_passed o = sym (el (sizes_passed o)) ∙ o.lengths_pass
 
 -- ---- exactness

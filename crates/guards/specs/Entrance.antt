@@ -4,7 +4,7 @@ use Rattle.std.specs.Prelude.{◌≡◌, true, cond, List, [], ◌∷◌, ℕ, l
 use Rattle.std.specs.Result.{result_and}
 use Rattle.weights.specs.declared.Component.{Component}
 use Rattle.weights.specs.declared.Language.{Language}
-use Rattle.weights.specs.declared.Places.{Places}
+use Rattle.weights.specs.declared.PerPlace.{PerPlace}
 use Rattle.weights.specs.Sizes.{places}
 use Rattle.weights.specs.Weights.{Sound}
 use Rattle.weights.specs.Laws.{test_d, test_u}
@@ -27,7 +27,7 @@ abbrev pub entrance_check : Language → Check → Check → Check
 entrance_check l sizes lengths = result_and sizes (result_and (language_check l) (result_and lengths (laws_check (components_of l))))
 
 -- the places hold the language, sound and lawful
-pub record Placed (l : Language) (p : Places) : Type 0 where
+pub record Placed (l : Language) (p : PerPlace Component) : Type 0 where
   pub placed : places_of p ≡ padded places (components_of l)
   pub limits : SmallLimits 65535 (places_of p)
   pub sound : Sound (places_of p)
@@ -35,13 +35,13 @@ pub record Placed (l : Language) (p : Places) : Type 0 where
   pub law_u_holds : test_u (places_of p) ≡ true
 
 -- every check has passed
-pub record Entered (l : Language) (sizes lengths : Check) (p : Places) : Type 0 where
+pub record Entered (l : Language) (sizes lengths : Check) (p : PerPlace Component) : Type 0 where
   pub sizes_pass : sizes ≡ Ok tt
   pub lengths_pass : lengths ≡ Ok tt
   pub passes : entrance_check l sizes lengths ≡ Ok tt
   pub in_places : Placed l p
 
 -- what the entrance gives
-abbrev pub Enters : Language → Check → Check → Result Places Refusal → Type 0
+abbrev pub Enters : Language → Check → Check → Result (PerPlace Component) Refusal → Type 0
 Enters l sizes lengths (Ok p) = Entered l sizes lengths p
 Enters l sizes lengths (Err x) = entrance_check l sizes lengths ≡ Err x

@@ -11,7 +11,8 @@ use Rattle.refusals.proofs.First.{first_passes}
 use Rattle.refusals.proofs.OneToOne.{told_one, told_not_done}
 use Rattle.algebra.specs.Best.{best}
 use Rattle.algebra.proofs.Embedding.{best_goes}
-use Rattle.weights.specs.declared.Places.{Places}
+use Rattle.weights.specs.declared.PerPlace.{PerPlace}
+use Rattle.weights.specs.declared.Component.{Component}
 use Rattle.weights.specs.Sizes.{places, arc_sum}
 use Rattle.weights.specs.Weights.{Valid, language}
 use Rattle.weights.specs.Languages.{places_of}
@@ -28,7 +29,6 @@ use Rattle.handover.specs.Parts.{HandoverChecked}
 use Rattle.refusals.specs.Cases.{checks_of}
 use Rattle.guards.specs.OnNetwork.{OnNetwork, components, arcs_on}
 use Rattle.routes.proofs.Order.{placed_sound}
-use Rattle.std.specs.Prelude.{Ok, Err}
 
 -- the row by what the checks and the test give
 abbrev pub lender_row_by : Check → Bool → LenderRow
@@ -48,7 +48,7 @@ module _ (N : OnNetwork) (standing newer : List ℕ) (i : ℕ) where
   pub lender_refused : (x : Refusal) → check ≡ Err x → lender_said (Err x) ≡ lender_row N standing newer i
   lender_refused x e = ap (λ (c : Check). lender_row_by c is_new) (sym e)
 
-  module _ (p : Places) (k : HandoverChecked N standing newer i p) {b : Bool} (q : b ≡ same_values newer (matrix_words n (best (language (places_of p)) n (matrix_in places n arcs)))) where
+  module _ (p : PerPlace Component) (k : HandoverChecked N standing newer i p) {b : Bool} (q : b ≡ same_values newer (matrix_words n (best (language (places_of p)) n (matrix_in places n arcs)))) where
     -- the best weights have the same words in the places and in the language
     best_same : matrix_words n (best (language (places_of p)) n (matrix_in places n arcs)) ≡ best_words N
     best_same =

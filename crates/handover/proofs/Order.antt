@@ -6,7 +6,8 @@ use Rattle.refusals.specs.declared.Refusal.{Refusal}
 use Rattle.std.specs.Result.{result_and}
 use Rattle.refusals.specs.Cases.{Case, check_of}
 use Rattle.refusals.proofs.First.{both_pass}
-use Rattle.weights.specs.declared.Places.{Places}
+use Rattle.weights.specs.declared.PerPlace.{PerPlace}
+use Rattle.weights.specs.declared.Component.{Component}
 use Rattle.weights.specs.Sizes.{arc_sum}
 use Rattle.weights.specs.Languages.{places_of}
 use Rattle.matrices.specs.Buffers.{Square}
@@ -45,7 +46,7 @@ module _ (N : OnNetwork) (standing newer : List ℕ) (i : ℕ) {found in_arcs in
   pub handover_stops : {x : Refusal} → entrance_check N.language found measured ≡ Err x → handover_check N standing newer i ≡ Err x
   handover_stops e = entrance_refuses N.language sizes lengths own found measured (nodes_only n en) all_long e
 
-  module _ (p : Places) (o : Entered N.language found measured p) where
+  module _ (p : PerPlace Component) (o : Entered N.language found measured p) where
     few : n ≤ most_nodes
     few = (nodes_found n (sizes_passed N.language sizes lengths own found measured (nodes_only n en) all_long o)).1
 

@@ -12,8 +12,8 @@ use Rattle.handover.specs.Calls.{handover_check, LenderRow, lender_row, lender_s
 use Rattle.handover.specs.Parts.{HandoverReady}
 use Rattle.guards.specs.OnNetwork.{OnNetwork}
 use Rattle.guards.proofs.Unique.{one_ready}
-use Rattle.std.specs.Prelude.{Result}
-use Rattle.weights.specs.declared.Places.{Places}
+use Rattle.weights.specs.declared.PerPlace.{PerPlace}
+use Rattle.weights.specs.declared.Component.{Component}
 use Rattle.refusals.specs.declared.Refusal.{Refusal}
 
 lender_one : (x y : Result Lender Refusal) → lender_said x ≡ lender_said y → x ≡ y
@@ -39,5 +39,5 @@ module _ (N : OnNetwork) (standing newer : List ℕ) (i : ℕ) where
       → (ys ≡ lent_row N standing newer i) × (y ≡ lent_start N standing newer i v w) → (xs ≡ ys) × (x ≡ y)
   lent_parts_equal v w xs ys x y p q = (p.0 ∙ sym q.0, p.1 ∙ sym q.1)
 
-  pub handover_ready_one : (x y : Result Places Refusal) → HandoverReady N standing newer i x → HandoverReady N standing newer i y → x ≡ y
+  pub handover_ready_one : (x y : Result (PerPlace Component) Refusal) → HandoverReady N standing newer i x → HandoverReady N standing newer i y → x ≡ y
   handover_ready_one = one_ready N.language (handover_check N standing newer i) (HandoverReady N standing newer i) (λ p k. (k.passes, k.in_places)) (λ x e. e)

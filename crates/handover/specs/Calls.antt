@@ -1,7 +1,7 @@
 -- The calls of a handover (01, "Forwarding and the next hop"): the cases in 01's order, which matrix lends, and the row lent.
 -- To be believed: all of it. That `is_best` holds exactly where every entry is the best, and none malformed, is `test_exactly`
 -- (handovers/proofs/Tested).
-use Rattle.std.specs.Prelude.{ℕ, ◌+◌, ◌*◌, Bool, cond, List, [], ◌∷◌, take, drop}
+use Rattle.std.specs.Prelude.{ℕ, ◌+◌, ◌*◌, Bool, cond, List, [], ◌∷◌, take, drop, Result, Ok, Err}
 use Rattle.refusals.specs.declared.Told.{Told}
 use Rattle.refusals.specs.Told.{told, done}
 use Rattle.algebra.specs.Best.{best}
@@ -11,7 +11,6 @@ use Rattle.weights.specs.Values.{same_values}
 use Rattle.matrices.specs.Buffers.{matrix_words}
 use Rattle.handover.specs.declared.Lender.{Lender}
 use Rattle.handover.specs.declared.Lender.TheVariants.{Newer, Standing}
-use Rattle.std.specs.Prelude.{Result, Ok, Err}
 use Rattle.refusals.specs.declared.Refusal.{Refusal}
 use Rattle.refusals.specs.Cases.{Case, check_of}
 use Rattle.guards.specs.Checks.{arcs_case, length_case, node_case, nodes_case, call_cases}

@@ -14,7 +14,7 @@ use Rattle.refusals.specs.Cases.{Case}
 use Rattle.refusals.proofs.First.{both_pass}
 use Rattle.algebra.proofs.Embedding.{Goes, GoesTo, join_goes}
 use Rattle.weights.specs.declared.Component.{Component}
-use Rattle.weights.specs.declared.Places.{Places}
+use Rattle.weights.specs.declared.PerPlace.{PerPlace}
 use Rattle.weights.specs.Sizes.{places, arc_sum, matrix_sum}
 use Rattle.weights.specs.Weights.{Weight, Valid, Sound, language}
 use Rattle.weights.specs.Languages.{padded, places_of}
@@ -41,7 +41,7 @@ unfolding lowest_from
 lowest_cong t u k zero e = refl
 lowest_cong t u k (suc c) e = ap₂ (λ (b : Bool) (o : Option ℕ). cond b (Some k) o) (e k (omega arith)) (lowest_cong t u (suc k) c (λ m h. e m (omega arith)))
 
-module _ (cs : List Component) (p : Places) (h : length cs ≤ places) (placed : places_of p ≡ padded places cs) (sound : Sound cs) (n : ℕ) (A B R S : Matrix)
+module _ (cs : List Component) (p : PerPlace Component) (h : length cs ≤ places) (placed : places_of p ≡ padded places cs) (sound : Sound cs) (n : ℕ) (A B R S : Matrix)
     (arcs : GoesTo (language cs) (language (places_of p)) (Valid cs) (pad_weight places) n A B) (routes : GoesTo (language cs) (language (places_of p)) (Valid cs) (pad_weight places) n R S) where
   same_go : {v w x y : Weight} → Goes (language cs) (language (places_of p)) (Valid cs) (pad_weight places) v x → Goes (language cs) (language (places_of p)) (Valid cs) (pad_weight places) w y → same x y ≡ same v w
   same_go {v} {w} f g = sym (ap₂ same f.to g.to) ∙ same_padded cs v w h f.kind g.kind
@@ -83,7 +83,7 @@ module _ (N : OnNetwork) (r : List ℕ) (i j : ℕ) where
     pub pair_refused : (x : Refusal) → both ≡ Err x → hop_said (Err x) ≡ hop_row N r i j
     pair_refused x h = by_check (Err x) (pair_first h)
 
-    module _ (p : Places) (o : Placed N.language p) (g : Given (places_of p) n arcs r) (passed : both ≡ Ok tt) where
+    module _ (p : PerPlace Component) (o : Placed N.language p) (g : Given (places_of p) n arcs r) (passed : both ≡ Ok tt) where
       pub pair_in : (i < n) × (j < n)
       pair_in = let h = both_pass first second (sym q ∙ passed) in (node_passed 0 n i (sym qi ∙ h.0), node_passed 1 n j (sym qj ∙ h.1))
 

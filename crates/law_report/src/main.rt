@@ -2,27 +2,38 @@
 // A language is nine numbers: the count, then kind (1 dist, 2 width, 3 class, 4 gain) and limit for each of four places.
 #![tactic(auto)]
 
-use laws::{Law, LawAnswer, Words};
+use laws::{Law, LawReport, Witness};
 use refusals::Refusal;
 use std::io;
-use weights::{Component, Language};
+use weights::{Component, Language, PerPlace};
 
-// A line, as far as it is read: whether a number is being read, that number, and those before it.
-#[derive(Clone, Copy)]
+// A line, as far as it is read: the number that is being read, if one is, and those before it.
+#[derive(Clone, Copy, Default)]
 struct Line {
-    within: bool,
-    number: u32,
+    number: Option<u32>,
     read: usize,
     numbers: [u32; 9],
 }
 
-fn empty() -> Line {
-    let numbers = [0u32; 9];
-    Line {
-        within: false,
-        number: 0,
-        read: 0,
-        numbers: numbers,
+impl Line {
+    // A digit goes on the number; far above every limit it no longer matters.
+    fn take_digit(&mut self, digit: u8) {
+        let number = self.number.unwrap_or(0);
+        self.number = Some(if number < 1000000 {
+            number * 10 + digit as u32
+        } else {
+            number
+        });
+    }
+
+    // The number that was being read, if one was, is one of the line's; a tenth is passed over.
+    fn end_number(&mut self) {
+        if let Some(number) = self.number.take() {
+            if let Some(place) = self.numbers.get_mut(self.read) {
+                *place = number;
+                self.read += 1;
+            }
+        }
     }
 }
 
@@ -42,34 +53,30 @@ fn component(kind: u32, number: u32) -> Component {
 }
 
 fn language(numbers: [u32; 9]) -> Language {
-    let first = component(numbers[1], numbers[2]);
-    let second = component(numbers[3], numbers[4]);
-    let third = component(numbers[5], numbers[6]);
-    let fourth = component(numbers[7], numbers[8]);
     Language {
         count: numbers[0],
-        first,
-        second,
-        third,
-        fourth,
+        first: component(numbers[1], numbers[2]),
+        second: component(numbers[3], numbers[4]),
+        third: component(numbers[5], numbers[6]),
+        fourth: component(numbers[7], numbers[8]),
     }
 }
 
-fn print_words(rt: &impl Print, name: &[u8], w: Words) -> io::Result<()> {
+fn print_words(rt: &impl Print, name: &[u8], w: PerPlace<u32>) -> io::Result<()> {
     rt.write_all(name)?;
     print!(rt; "{} {} {} {}", w.first, w.second, w.third, w.fourth)
 }
 
 fn print_law(rt: &impl Print, name: &[u8], law: Law) -> io::Result<()> {
     rt.write_all(name)?;
-    if law.held {
-        rt.write_all(b" held:")?;
-    } else {
-        rt.write_all(b" broken:")?;
+    match law {
+        Law::Held => rt.write_all(b" held:")?,
+        Law::BrokenBy(_) => rt.write_all(b" broken:")?,
     }
-    print_words(rt, b" s ", law.s)?;
-    print_words(rt, b" x ", law.x)?;
-    print_words(rt, b" y ", law.y)?;
+    let Witness { s, x, y } = law.witness();
+    print_words(rt, b" s ", s)?;
+    print_words(rt, b" x ", x)?;
+    print_words(rt, b" y ", y)?;
     rt.write_all(b"\n")
 }
 
@@ -80,93 +87,51 @@ fn print_refusal(rt: &impl Print, r: Refusal) -> io::Result<()> {
 
 fn print_report(rt: &impl Print, l: Language) -> io::Result<()> {
     match laws::laws(l) {
-        LawAnswer::Laws { d, u, c } => {
+        Ok(LawReport { d, u, c }) => {
             print_law(rt, b"D", d)?;
             print_law(rt, b"U", u)?;
             print_law(rt, b"C", c)
         }
-        LawAnswer::Refused(r) => print_refusal(rt, r),
+        Err(r) => print_refusal(rt, r),
     }
-}
-
-// The number that was being read, if one was, is one of the line's.
-fn number_ends(line: Line) -> Line {
-    if !line.within {
-        return line;
-    }
-    let mut numbers = line.numbers;
-    let read = line.read;
-    if read < 9 {
-        numbers[read] = line.number;
-        return Line {
-            within: false,
-            number: 0,
-            read: read + 1,
-            numbers: numbers,
-        };
-    }
-    line
 }
 
 // A line without a number is passed over.
-fn line_ends(rt: &impl Print, line: Line) -> io::Result<Line> {
-    let whole = number_ends(line);
-    if whole.read == 0 {
-        return Ok(empty());
+fn end_line(rt: &impl Print, line: &mut Line) -> io::Result<()> {
+    line.end_number();
+    if 0 < line.read {
+        print_report(rt, language(line.numbers))?;
     }
-    print_report(rt, language(whole.numbers))?;
-    Ok(empty())
+    *line = Line::default();
+    Ok(())
 }
 
-// A digit goes on the number; far above every limit it no longer matters.
-fn appended(number: u32, byte: u8) -> u32 {
-    if 1000000 <= number {
-        return number;
-    }
-    if byte < 48 {
-        return number;
-    }
-    number * 10 + (byte - 48) as u32
-}
-
-fn digit(line: Line, byte: u8) -> Line {
-    let numbers = line.numbers;
-    let number = appended(line.number, byte);
-    Line {
-        within: true,
-        number: number,
-        read: line.read,
-        numbers: numbers,
-    }
-}
-
-fn take_byte(rt: &impl Print, line: Line, byte: u8) -> io::Result<Line> {
+fn take_byte(rt: &impl Print, line: &mut Line, byte: u8) -> io::Result<()> {
     match byte {
-        10 => line_ends(rt, line),
-        48..=57 => Ok(digit(line, byte)),
-        _ => Ok(number_ends(line)),
+        b'\n' => end_line(rt, line)?,
+        b'0'..=b'9' => line.take_digit(byte - b'0'),
+        _ => line.end_number(),
     }
+    Ok(())
 }
 
 // The bytes that were read, one by one.
-fn take_bytes(rt: &impl Print, bytes: &[u8], before: Line) -> io::Result<Line> {
-    let mut line = before;
+fn take_bytes(rt: &impl Print, bytes: &[u8], line: &mut Line) -> io::Result<()> {
     for byte in bytes {
-        line = take_byte(rt, line, *byte)?;
+        take_byte(rt, line, *byte)?;
     }
-    Ok(line)
+    Ok(())
 }
 
 fn main(rt: HostRuntime) -> io::Result<()> {
     let mut input = rt.stdin();
-    let mut line = empty();
+    let mut line = Line::default();
     for _ in 0..1000 {
         let mut bytes = [0u8; 4096];
         let got = inputs::read_full(&mut input, &mut bytes)?;
-        line = take_bytes(&rt, &bytes[..got], line)?;
+        take_bytes(&rt, &bytes[..got], &mut line)?;
         if got < 4096 {
-            line_ends(&rt, line)?;
-            return Ok(());
+            return end_line(&rt, &mut line);
         }
     }
     Ok(())

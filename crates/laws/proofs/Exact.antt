@@ -2,9 +2,11 @@
 -- weights that break it; each refusal is given exactly in its case; two answers that meet the contract are equal.
 use Prim.Native.Nat.{ℕ, ◌≤◌}
 use mathlib.Core.Path.{◌≡◌, refl, sym, ap, ◌∙◌}
-use mathlib.Core.Bool.{Bool, true, false}
+use mathlib.Core.Bool.{Bool, true, false, false≢true}
 use mathlib.Core.List.{List, []}
 use mathlib.Core.Logic.{◌↔◌}
+use Rattle.std.specs.Prelude.{Result, Ok, Err}
+use Rattle.refusals.specs.declared.Refusal.{Refusal}
 use Rattle.refusals.specs.Told.{done}
 use Rattle.refusals.proofs.OneToOne.{told_one, told_not_done}
 use Rattle.refusals.specs.Checks.{answer_told, Check}
@@ -18,13 +20,13 @@ use Rattle.weights.specs.Languages.{components_of, language_cases, language_chec
 use Rattle.weights.proofs.Decided.{d_exact, u_exact, c_exact, d_broken, u_broken, c_broken}
 use Rattle.weights.proofs.Checking.{check_sound, sound_count, count_in, limits_exact}
 use Rattle.weights.proofs.Cases.{language_exact}
-use Rattle.laws.specs.declared.Words.{Words}
+use Rattle.weights.specs.declared.PerPlace.{PerPlace}
+use Rattle.weights.specs.PerPlace.{list_of}
 use Rattle.laws.specs.declared.Law.{Law}
-use Rattle.laws.specs.declared.LawAnswer.{LawAnswer}
-use Rattle.laws.specs.declared.LawAnswer.TheVariants.{Laws, Refused as NoLaws}
+use Rattle.laws.specs.declared.Law.TheVariants.{Held, BrokenBy}
+use Rattle.laws.specs.declared.LawReport.{LawReport}
 use Rattle.laws.specs.Verdicts.{Shown, LawsHold}
-use Rattle.laws.specs.Report.{LawRow, Report, law_row, laws_of, report_of, report, four_words, law_of, answer_row}
-use Rattle.std.specs.Prelude.{Ok, Err}
+use Rattle.laws.specs.Report.{LawRow, Report, law_row, laws_of, report_of, report, law_of, answer_row}
 
 -- ---- the verdicts, of a language that passes its checks
 
@@ -78,8 +80,8 @@ laws_exactly l = (λ e. sound_count l (passes (language_check l) refl e), λ h. 
     passes (Err r) p e = absurd (told_not_done r e)
 
 -- an answer with the laws says which hold
-pub answer_laws : (l : Language) (d u c : Law) → answer_row (Laws d u c) ≡ report l → LawsHold (components_of l) d u c
-answer_laws l d u c e =
+pub answer_laws : (l : Language) (r : LawReport) → answer_row (Ok r) ≡ report l → LawsHold (components_of l) r.d r.u r.c
+answer_laws l r e =
     let p : language_check l ≡ Ok tt = passed_by l (sym (ap (λ (r : Report). r.told) e)) in
     record {
       holds_d = same_test l p (ap (λ (r : Report). r.law_d.held) e) (d_reported l p);
@@ -102,7 +104,7 @@ laws_told l = told_exactly (language_cases l) (language_exact l) (report l).told
 
 -- ---- two answers with one row are equal
 
-pub words_one : (v w : Words) → four_words v ≡ four_words w → v ≡ w
+pub words_one : (v w : PerPlace ℕ) → list_of v ≡ list_of w → v ≡ w
 words_one v w e = λ i. record { first = a i; second = b i; third = c i; fourth = d i }
   where
     a : v.first ≡ w.first
@@ -118,11 +120,11 @@ words_one v w e = λ i. record { first = a i; second = b i; third = c i; fourth 
     d = cc
 
 law_one : (v w : Law) → law_of v ≡ law_of w → v ≡ w
-law_one v w e = λ i. record { held = h i; s = s i; x = x i; y = y i }
+law_one Held Held e = refl
+law_one Held (BrokenBy w) e = absurd (false≢true (sym (ap (λ (r : LawRow). r.held) e)))
+law_one (BrokenBy v) Held e = absurd (false≢true (ap (λ (r : LawRow). r.held) e))
+law_one (BrokenBy v) (BrokenBy w) e = λ i. BrokenBy (record { s = s i; x = x i; y = y i })
   where
-    h : v.held ≡ w.held
-    h = ap (λ (r : LawRow). r.held) e
-
     s : v.s ≡ w.s
     s = words_one v.s w.s (ap (λ (r : LawRow). r.s) e)
 
@@ -132,11 +134,11 @@ law_one v w e = λ i. record { held = h i; s = s i; x = x i; y = y i }
     y : v.y ≡ w.y
     y = words_one v.y w.y (ap (λ (r : LawRow). r.y) e)
 
-row_one : (a b : LawAnswer) → answer_row a ≡ answer_row b → a ≡ b
-row_one (Laws d u c) (Laws d' u' c') e = λ i. Laws (law_one d d' (ap (λ (r : Report). r.law_d) e) i) (law_one u u' (ap (λ (r : Report). r.law_u) e) i) (law_one c c' (ap (λ (r : Report). r.law_c) e) i)
-row_one (Laws d u c) (NoLaws r) e = absurd (told_not_done r (sym (ap (λ (q : Report). q.told) e)))
-row_one (NoLaws r) (Laws d u c) e = absurd (told_not_done r (ap (λ (q : Report). q.told) e))
-row_one (NoLaws r) (NoLaws s) e = ap NoLaws (told_one r s (ap (λ (q : Report). q.told) e))
+row_one : (a b : Result LawReport Refusal) → answer_row a ≡ answer_row b → a ≡ b
+row_one (Ok q) (Ok r) e = λ i. Ok (record { d = law_one q.d r.d (ap (λ (x : Report). x.law_d) e) i; u = law_one q.u r.u (ap (λ (x : Report). x.law_u) e) i; c = law_one q.c r.c (ap (λ (x : Report). x.law_c) e) i })
+row_one (Ok q) (Err r) e = absurd (told_not_done r (sym (ap (λ (x : Report). x.told) e)))
+row_one (Err q) (Ok r) e = absurd (told_not_done q (ap (λ (x : Report). x.told) e))
+row_one (Err q) (Err r) e = ap Err (told_one q r (ap (λ (x : Report). x.told) e))
 
-pub answers_equal : (l : Language) (a b : LawAnswer) → answer_row a ≡ report l → answer_row b ≡ report l → a ≡ b
+pub answers_equal : (l : Language) (a b : Result LawReport Refusal) → answer_row a ≡ report l → answer_row b ≡ report l → a ≡ b
 answers_equal l a b p q = row_one a b (p ∙ sym q)

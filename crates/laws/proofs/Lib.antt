@@ -1,4 +1,3 @@
-pub mod Overlays
 pub mod Reporting
 pub mod Exact
 pub mod Worked

@@ -1,11 +1,6 @@
 -- How the code finds a witness: a flag for each place, and words laid over others at the first flag.
 -- They join the code to Report; nothing here has to be believed.
 use Rattle.std.specs.Prelude.{ℕ, Bool, false, cond, ◌&&◌, ◌||◌, List, [], ◌∷◌}
-use Rattle.laws.specs.declared.Flags.{Flags}
-
--- the four flags as a list
-abbrev pub flags_of : Flags → List Bool
-flags_of f = f.first ∷ f.second ∷ f.third ∷ f.fourth ∷ []
 
 -- some flag is set
 abbrev pub some_flag : List Bool → Bool

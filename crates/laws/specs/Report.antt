@@ -1,6 +1,7 @@
 -- The law report (01, "The three laws"; refusals 5 and 4): the whole row of the answer.
 -- To be believed: all of it.
-use Rattle.std.specs.Prelude.{ℕ, Bool, false, cond, List, [], ◌∷◌}
+use Rattle.std.specs.Prelude.{ℕ, Bool, true, false, cond, List, [], Result, Ok, Err}
+use Rattle.refusals.specs.declared.Refusal.{Refusal}
 use Rattle.refusals.specs.declared.Told.{Told}
 use Rattle.refusals.specs.Told.{told, done}
 use Rattle.weights.specs.declared.Component.{Component}
@@ -10,10 +11,10 @@ use Rattle.weights.specs.Weights.{unit_values}
 use Rattle.weights.specs.Laws.{test_d, test_u, test_c, s_d, x_d, y_d, x_u, s_c}
 use Rattle.weights.specs.Languages.{components_of, language_check}
 use Rattle.weights.specs.Words.{filled}
-use Rattle.laws.specs.declared.Words.{Words}
+use Rattle.weights.specs.PerPlace.{list_of}
 use Rattle.laws.specs.declared.Law.{Law}
-use Rattle.laws.specs.declared.LawAnswer.{LawAnswer}
-use Rattle.laws.specs.declared.LawAnswer.TheVariants.{Laws, Refused as NoLaws}
+use Rattle.laws.specs.declared.Law.TheVariants.{Held, BrokenBy}
+use Rattle.laws.specs.declared.LawReport.{LawReport}
 use Rattle.refusals.specs.Checks.{answer_told, if_passed, Check}
 
 -- One law of the report: held or not, and the words of s, x and y.
@@ -70,15 +71,12 @@ report l = report_of (language_check l) (components_of l)
 
 -- ---- what the code's answer says
 
--- the four words as a list
-abbrev pub four_words : Words → List ℕ
-four_words w = w.first ∷ w.second ∷ w.third ∷ w.fourth ∷ []
-
 -- the row of a law in the code's answer
 abbrev pub law_of : Law → LawRow
-law_of w = record { held = w.held; s = four_words w.s; x = four_words w.x; y = four_words w.y }
+law_of Held = record { held = true; s = no_words; x = no_words; y = no_words }
+law_of (BrokenBy w) = record { held = false; s = list_of w.s; x = list_of w.x; y = list_of w.y }
 
 -- the whole row of an answer
-abbrev pub answer_row : LawAnswer → Report
-answer_row (Laws d u c) = record { told = done; law_d = law_of d; law_u = law_of u; law_c = law_of c }
-answer_row (NoLaws r) = record { told = told r; law_d = untold; law_u = untold; law_c = untold }
+abbrev pub answer_row : Result LawReport Refusal → Report
+answer_row (Ok r) = record { told = done; law_d = law_of r.d; law_u = law_of r.u; law_c = law_of r.c }
+answer_row (Err r) = record { told = told r; law_d = untold; law_u = untold; law_c = untold }

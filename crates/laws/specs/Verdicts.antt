@@ -4,7 +4,7 @@ use Rattle.std.specs.Prelude.{ℕ, ◌≡◌, true, List, ◌↔◌}
 use Rattle.weights.specs.declared.Component.{Component}
 use Rattle.weights.specs.Laws.{LawD, LawU, LawC}
 use Rattle.laws.specs.declared.Law.{Law}
-use Rattle.laws.specs.Report.{LawRow, value_words}
+use Rattle.laws.specs.Report.{LawRow, value_words, law_of}
 
 -- a law reported broken: the words are those of weights that break it
 pub record Shown (row : LawRow) (s x y : List ℕ) (Breaks : Type 0) : Type 0 where
@@ -15,6 +15,6 @@ pub record Shown (row : LawRow) (s x y : List ℕ) (Breaks : Type 0) : Type 0 wh
 
 -- the laws are reported held exactly where they hold over all weights
 pub record LawsHold (cs : List Component) (d u c : Law) : Type 0 where
-  pub holds_d : (d.held ≡ true) ↔ LawD cs
-  pub holds_u : (u.held ≡ true) ↔ LawU cs
-  pub holds_c : (c.held ≡ true) ↔ LawC cs
+  pub holds_d : ((law_of d).held ≡ true) ↔ LawD cs
+  pub holds_u : ((law_of u).held ≡ true) ↔ LawU cs
+  pub holds_c : ((law_of c).held ≡ true) ↔ LawC cs

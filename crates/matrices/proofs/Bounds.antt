@@ -14,7 +14,7 @@ use Rattle.algebra.specs.Order.{pick, best_of}
 use Rattle.algebra.specs.Step.{fresh}
 use Rattle.weights.specs.declared.Component.{Component}
 use Rattle.weights.specs.declared.Component.TheVariants.{Dist, Width, Class, Gain}
-use Rattle.weights.specs.declared.Places.{Places}
+use Rattle.weights.specs.declared.PerPlace.{PerPlace}
 use Rattle.weights.specs.Sizes.{places, weight_words, ones, arc_sum, matrix_sum}
 use Rattle.weights.specs.Weights.{Weight, none, route, Sound, Valid, ValidValue, ValidValues, join, join_values, join_value, better, better_of, unit, unit_values, unit_value, language}
 use Rattle.weights.specs.Languages.{places_of, SmallLimit, SmallLimits}
@@ -51,12 +51,12 @@ module _ (cap : ℕ) (cs : List Component) (ws : List ℕ) (e : is_good (reading
       go false false f g = absurd (false≢true g)
 
 -- the entries of a well-formed buffer are weights of the language
-pub formed_valid : (cap : ℕ) (p : Places) (n : ℕ) (s : List ℕ) → Formed cap (places_of p) n s → (i j : ℕ) → i < n → j < n → Valid (places_of p) (matrix_in places n s i j)
+pub formed_valid : (cap : ℕ) (p : PerPlace Component) (n : ℕ) (s : List ℕ) → Formed cap (places_of p) n s → (i j : ℕ) → i < n → j < n → Valid (places_of p) (matrix_in places n s i j)
 unfolding cell
 formed_valid cap p n s f i j hi hj = well_valid cap (places_of p) (words_at s (entry_place n i j)) (well_read cap (places_of p) (words_at s (entry_place n i j)) (f.reads i j hi hj))
 
 -- .. and no value of one is above cap
-pub formed_most : (cap : ℕ) (p : Places) (n : ℕ) (s : List ℕ) → arc_sum ≤ cap → SmallLimits 65535 (places_of p) → Formed cap (places_of p) n s
+pub formed_most : (cap : ℕ) (p : PerPlace Component) (n : ℕ) (s : List ℕ) → arc_sum ≤ cap → SmallLimits 65535 (places_of p) → Formed cap (places_of p) n s
     → (i j : ℕ) → i < n → j < n → AtMost cap (matrix_in places n s i j)
 unfolding cell
 formed_most cap p n s h l f i j hi hj = read_most cap (places_of p) (words_at s (entry_place n i j)) (f.reads i j hi hj) arc_sum h l
@@ -145,7 +145,7 @@ within_fresh n cs s h i j = go (eqb i j)
     go true = record { valid = unit_valid cs s; most = unit_most_v n cs h }
     go false = record { valid = tt; most = tt }
 
-pub formed_within : (cap : ℕ) (p : Places) (n : ℕ) (s : List ℕ) → arc_sum ≤ cap → SmallLimits 65535 (places_of p) → Formed cap (places_of p) n s
+pub formed_within : (cap : ℕ) (p : PerPlace Component) (n : ℕ) (s : List ℕ) → arc_sum ≤ cap → SmallLimits 65535 (places_of p) → Formed cap (places_of p) n s
     → (i j : ℕ) → i < n → j < n → Within cap (places_of p) (matrix_in places n s i j)
 formed_within cap p n s h l f i j hi hj = record { valid = formed_valid cap p n s f i j hi hj; most = formed_most cap p n s h l f i j hi hj }
 
@@ -162,7 +162,7 @@ back c0 c1 c2 c3 b (route (x ∷ y ∷ z ∷ [])) l h = absurd h.valid.1.1.1
 back c0 c1 c2 c3 b (route (x ∷ y ∷ z ∷ v ∷ [])) l h = let q : x ≤ b = h.most.0 in rw (ne_eqb x ones (λ e. omega arith))
 back c0 c1 c2 c3 b (route (x ∷ y ∷ z ∷ v ∷ u ∷ t)) l h = absurd h.valid.1.1.1.1
 
-pub within_back : (p : Places) (b : ℕ) (w : Weight) → b < ones → Within b (places_of p) w → decoded places (words w) ≡ w
+pub within_back : (p : PerPlace Component) (b : ℕ) (w : Weight) → b < ones → Within b (places_of p) w → decoded places (words w) ≡ w
 within_back p b w l h = back p.first p.second p.third p.fourth b w l h
 
 -- ---- the test of a row step
@@ -217,5 +217,5 @@ good_words4 c0 c1 c2 c3 (route (x ∷ y ∷ z ∷ u ∷ [])) v e =
 good_words4 c0 c1 c2 c3 (route (x ∷ y ∷ z ∷ u ∷ t ∷ l)) v e = absurd v.1.1.1.1
 
 -- the words of a valid weight whose sums fit are well-formed
-pub good_words : (p : Places) (w : Weight) → Valid (places_of p) w → weight_fits (places_of p) w ≡ true → is_good (reading matrix_sum (places_of p) (words w)) ≡ true
+pub good_words : (p : PerPlace Component) (w : Weight) → Valid (places_of p) w → weight_fits (places_of p) w ≡ true → is_good (reading matrix_sum (places_of p) (words w)) ≡ true
 good_words p w v e = good_words4 p.first p.second p.third p.fourth w v e

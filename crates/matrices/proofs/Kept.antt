@@ -9,7 +9,8 @@ use borrow.Author.Tests.{eqb-true}
 use lib.Dec.{eqb}
 use Rattle.algebra.specs.Best.{best}
 use Rattle.algebra.specs.Step.{row, settle, routed, step}
-use Rattle.weights.specs.declared.Places.{Places}
+use Rattle.weights.specs.declared.PerPlace.{PerPlace}
+use Rattle.weights.specs.declared.Component.{Component}
 use Rattle.weights.specs.Sizes.{places, weight_words, matrix_sum}
 use Rattle.weights.specs.Weights.{Weight, language}
 use Rattle.weights.specs.Languages.{places_of}
@@ -24,29 +25,29 @@ use Rattle.matrices.proofs.Rounds.{routed_within, routed_back}
 use Rattle.matrices.proofs.Sums.{most_fits, arcs_of_lem, best_within}
 
 -- an entry's words are well-formed and stand for it
-pub record Stands (p : Places) (w : Weight) : Type 0 where
+pub record Stands (p : PerPlace Component) (w : Weight) : Type 0 where
   pub good : is_good (reading matrix_sum (places_of p) (words w)) ≡ true
   pub back : decoded places (words w) ≡ w
 
 -- ---- a matrix all of whose entries stand
 
-pub stands_formed : (p : Places) (n : ℕ) (R : Matrix) → n ≤ 16 → ((i j : ℕ) → i < n → j < n → Stands p (R i j)) → Formed matrix_sum (places_of p) n (matrix_words n R)
+pub stands_formed : (p : PerPlace Component) (n : ℕ) (R : Matrix) → n ≤ 16 → ((i j : ℕ) → i < n → j < n → Stands p (R i j)) → Formed matrix_sum (places_of p) n (matrix_words n R)
 stands_formed p n R few h = record {
   square = record { few = few; long = length_matrix n R };
   reads = λ i j hi hj. subst (λ (l : List ℕ). is_good (reading matrix_sum (places_of p) l) ≡ true) (sym (matrix_four n R i j hi hj)) (h i j hi hj).good;
 }
 
-pub stands_entries : (p : Places) (n : ℕ) (R : Matrix) → ((i j : ℕ) → i < n → j < n → Stands p (R i j)) → (i j : ℕ) → i < n → j < n → matrix_in places n (matrix_words n R) i j ≡ R i j
+pub stands_entries : (p : PerPlace Component) (n : ℕ) (R : Matrix) → ((i j : ℕ) → i < n → j < n → Stands p (R i j)) → (i j : ℕ) → i < n → j < n → matrix_in places n (matrix_words n R) i j ≡ R i j
 stands_entries p n R h i j hi hj = matrix_reads n R i j hi hj (h i j hi hj).back
 
 -- ---- which entries stand
 
 -- a weight, its sums at most 983,025
-pub within_stands : (p : Places) (w : Weight) → Within matrix_sum (places_of p) w → Stands p w
+pub within_stands : (p : PerPlace Component) (w : Weight) → Within matrix_sum (places_of p) w → Stands p w
 within_stands p w h = record { good = good_words p w h.valid (most_fits (places_of p) w h.most); back = within_back p matrix_sum w (omega arith) h }
 
 -- an entry of a well-formed matrix
-pub old_stands : (p : Places) (n : ℕ) (r : List ℕ) → Formed matrix_sum (places_of p) n r → (i j : ℕ) → i < n → j < n → Stands p (matrix_in places n r i j)
+pub old_stands : (p : PerPlace Component) (n : ℕ) (r : List ℕ) → Formed matrix_sum (places_of p) n r → (i j : ℕ) → i < n → j < n → Stands p (matrix_in places n r i j)
 old_stands p n r f i j hi hj =
     let room : entry_place n i j + weight_words ≤ n * (n * weight_words) = place_room n i j hi hj in
     record {
@@ -56,7 +57,7 @@ old_stands p n r f i j hi hj =
 
 -- ---- the steps
 
-module _ (p : Places) (n : ℕ) (a r : List ℕ) (g : Given (places_of p) n a r) where
+module _ (p : PerPlace Component) (n : ℕ) (a r : List ℕ) (g : Given (places_of p) n a r) where
   -- the matrix that row step i leaves
   abbrev row_left : ℕ → Matrix
   row_left i = stepped (places_of p) n (matrix_in places n a) (matrix_in places n r) i

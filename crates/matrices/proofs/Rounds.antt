@@ -13,7 +13,7 @@ use lib.Seq.{take_at, drop_at}
 use Rattle.algebra.specs.Order.{pick, best_of}
 use Rattle.algebra.specs.Step.{row, fresh, through, routed, step}
 use Rattle.weights.specs.declared.Component.{Component}
-use Rattle.weights.specs.declared.Places.{Places}
+use Rattle.weights.specs.declared.PerPlace.{PerPlace}
 use Rattle.weights.specs.Sizes.{places, weight_words, arc_sum, matrix_sum, table_sum}
 use Rattle.weights.specs.Weights.{Weight, none, route, join, better_of, language}
 use Rattle.weights.specs.Languages.{places_of}
@@ -43,7 +43,7 @@ fold_none cs n y s h =
 -- ---- one arc more
 
 -- the best over the first k arcs, and the fresh entry
-abbrev pub up_to : Places → ℕ → List ℕ → List ℕ → ℕ → Matrix
+abbrev pub up_to : PerPlace Component → ℕ → List ℕ → List ℕ → ℕ → Matrix
 up_to p n a r k = routed (language (places_of p)) k (matrix_in places n a) (matrix_in places n r)
 
 pub routed_none : (cs : List Component) (A R : Matrix) (i j : ℕ) → routed (language cs) 0 A R i j ≡ fresh (language cs) i j
@@ -55,11 +55,11 @@ unfolding routed best_of
 routed_more cs k A R i j = rw add-one
 
 -- the first k arcs have been taken into the row, which was s₀
-pub record Taken (p : Places) (n : ℕ) (a r : List ℕ) (i : ℕ) (s₀ : List ℕ) (k : ℕ) (s : List ℕ) : Type 0 where
+pub record Taken (p : PerPlace Component) (n : ℕ) (a r : List ℕ) (i : ℕ) (s₀ : List ℕ) (k : ℕ) (s : List ℕ) : Type 0 where
   pub holds : s ≡ row_words n (up_to p n a r k i) ++ drop (n * weight_words) s₀
   pub long : length s ≡ length s₀
 
-pub taken_none : (p : Places) (n : ℕ) (a r : List ℕ) (i : ℕ) (s₀ s z : List ℕ) → s ≡ row_words n (fresh (language (places_of p)) i) ++ z → s₀ ≡ s → Taken p n a r i s₀ 0 s
+pub taken_none : (p : PerPlace Component) (n : ℕ) (a r : List ℕ) (i : ℕ) (s₀ s z : List ℕ) → s ≡ row_words n (fresh (language (places_of p)) i) ++ z → s₀ ≡ s → Taken p n a r i s₀ 0 s
 taken_none p n a r i s₀ s z e q = record {
   holds = e ∙ ap₂ (λ (x y : List ℕ). x ++ y) (row_cong n _ _ (λ j _. sym (routed_none (places_of p) (matrix_in places n a) (matrix_in places n r) i j)))
       (sym (ap (drop (n * weight_words)) (q ∙ e) ∙ drop_at (row_words n (fresh (language (places_of p)) i)) z (n * weight_words) (length_row n _)));
@@ -67,14 +67,14 @@ taken_none p n a r i s₀ s z e q = record {
 }
 
 -- all arcs have been taken
-pub taken_all : (p : Places) (n : ℕ) (a r : List ℕ) (i : ℕ) (e s₀ : List ℕ) (k : ℕ) (s : List ℕ) → Taken p n a r i s₀ k s → k ≡ n
+pub taken_all : (p : PerPlace Component) (n : ℕ) (a r : List ℕ) (i : ℕ) (e s₀ : List ℕ) (k : ℕ) (s : List ℕ) → Taken p n a r i s₀ k s → k ≡ n
     → s₀ ≡ row_words n (fresh (language (places_of p)) i) ++ drop (n * weight_words) e → s ≡ row_words n (up_to p n a r n i) ++ drop (n * weight_words) e
 taken_all p n a r i e s₀ k s t q h =
     t.holds
     ∙ ap₂ (λ (m : ℕ) (z : List ℕ). row_words n (up_to p n a r m i) ++ z) q
     (ap (drop (n * weight_words)) h ∙ drop_at (row_words n (fresh (language (places_of p)) i)) (drop (n * weight_words) e) (n * weight_words) (length_row n _))
 
-module _ (p : Places) (n : ℕ) (a r : List ℕ) (g : Given (places_of p) n a r) where
+module _ (p : PerPlace Component) (n : ℕ) (a r : List ℕ) (g : Given (places_of p) n a r) where
   -- what a row step works out is a weight, its sums at most 1,048,560
   pub routed_within : (i j : ℕ) → i < n → j < n → (k : ℕ) → k ≤ n → Within table_sum (places_of p) (up_to p n a r k i j)
   unfolding routed

@@ -13,7 +13,7 @@ use Rattle.algebra.proofs.Reach.{entry_held}
 use Rattle.algebra.proofs.Bound.{Size, held_fits}
 use Rattle.weights.specs.declared.Component.{Component}
 use Rattle.weights.specs.declared.Component.TheVariants.{Dist, Width, Class, Gain}
-use Rattle.weights.specs.declared.Places.{Places}
+use Rattle.weights.specs.declared.PerPlace.{PerPlace}
 use Rattle.weights.specs.Sizes.{places, arc_sum, matrix_sum}
 use Rattle.weights.specs.Weights.{Weight, none, route, Valid, ValidValue, ValidValues, join_value, join_values, join, unit_value, unit_values, language}
 use Rattle.weights.specs.Languages.{places_of, SmallLimit, SmallLimits}
@@ -126,10 +126,10 @@ most_fits cs w h = largest_fits cs w (most_largest matrix_sum cs w h)
 -- ---- the network
 
 -- what a settle step is given, without its routes
-pub arcs_of_lem : (p : Places) (n : ℕ) (a r : List ℕ) → Given (places_of p) n a r → GivenArcs (places_of p) n a
+pub arcs_of_lem : (p : PerPlace Component) (n : ℕ) (a r : List ℕ) → Given (places_of p) n a r → GivenArcs (places_of p) n a
 arcs_of_lem p n a r g = record { limits = g.limits; sound = g.sound; law_d_holds = g.law_d_holds; law_u_holds = g.law_u_holds; arcs = g.arcs }
 
-module _ (p : Places) (n : ℕ) (a : List ℕ) (g : GivenArcs (places_of p) n a) where
+module _ (p : PerPlace Component) (n : ℕ) (a : List ℕ) (g : GivenArcs (places_of p) n a) where
   -- well-formed arcs of a lawful language are a network
   unfoldable pub network : Network
   network = record {

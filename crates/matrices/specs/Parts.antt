@@ -4,7 +4,7 @@
 use Rattle.std.specs.Prelude.{ℕ, ◌≡◌, Bool, true, ◌&&◌, List, [], ◌∷◌, leb}
 use Rattle.weights.specs.declared.Component.{Component}
 use Rattle.weights.specs.declared.Component.TheVariants.{Class}
-use Rattle.weights.specs.declared.Places.{Places}
+use Rattle.weights.specs.declared.PerPlace.{PerPlace}
 use Rattle.weights.specs.Sizes.{places, matrix_sum}
 use Rattle.weights.specs.Weights.{Weight, none, route, join, better_of}
 use Rattle.weights.specs.Values.{same}
@@ -47,7 +47,7 @@ pub record FirstAlone (cs : List Component) (x y : Weight) : Type 0 where
   pub alone : join cs x y ≡ first_only (join cs x y)
 
 -- every place after the first is unused
-pub record Single (p : Places) : Type 0 where
+pub record Single (p : PerPlace Component) : Type 0 where
   pub second : p.second ≡ Class 0
   pub third : p.third ≡ Class 0
   pub fourth : p.fourth ≡ Class 0

@@ -6,7 +6,7 @@ ghost use Rattle.tables.specs.Tables.{Sized};
 ghost use Rattle.decimals.specs.Texts.{Put};
 ghost use Rattle.printing.specs.Printed.{laws_part, routes_part, forward_part};
 
-use laws::{LawAnswer, laws};
+use laws::{LawReport, laws};
 use refusals::Told;
 use texts::lines::{put_laws_line, put_refused_line};
 use texts::rows::{put_forwards, put_routes};
@@ -17,14 +17,9 @@ pub fn put_laws(l: Language, at: usize, out: &mut [u8]) -> usize
     requires { at + 38 ≤ length out.old }
     ensures { Put 38 out.old at (laws_part l) out.new result }
 {
-    let answer = laws(l);
-    match answer {
-        LawAnswer::Laws { d, u, c } => {
-            return put_laws_line(d.held, u.held, c.held, at, out);
-        }
-        LawAnswer::Refused(_) => {
-            return put_laws_line(false, false, false, at, out);
-        }
+    match laws(l) {
+        Ok(LawReport { d, u, c }) => put_laws_line(d.is_held(), u.is_held(), c.is_held(), at, out),
+        Err(_) => put_laws_line(false, false, false, at, out),
     }
 }
 

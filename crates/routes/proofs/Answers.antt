@@ -13,7 +13,8 @@ use Rattle.refusals.proofs.First.{or_passed, if_passed_lem, if_refused}
 use Rattle.refusals.proofs.Cases.{check_append}
 use Rattle.algebra.specs.Step.{fresh}
 use Rattle.weights.specs.declared.Language.{Language}
-use Rattle.weights.specs.declared.Places.{Places}
+use Rattle.weights.specs.declared.PerPlace.{PerPlace}
+use Rattle.weights.specs.declared.Component.{Component}
 use Rattle.weights.specs.Sizes.{places, arc_sum, matrix_sum}
 use Rattle.weights.specs.Weights.{language}
 use Rattle.weights.specs.Languages.{components_of, places_of}
@@ -32,7 +33,7 @@ use Rattle.std.specs.Prelude.{Ok, Err}
 
 -- ---- fresh
 
-pub fresh_done : (l : Language) (n : ℕ) (p : Places) (r left : List ℕ) → fresh_check l n r ≡ Ok tt → Placed l p → left ≡ matrix_words n (fresh (language (places_of p)))
+pub fresh_done : (l : Language) (n : ℕ) (p : PerPlace Component) (r left : List ℕ) → fresh_check l n r ≡ Ok tt → Placed l p → left ≡ matrix_words n (fresh (language (places_of p)))
     → (answer_told (Ok tt) ≡ answer_told (fresh_check l n r)) × (left ≡ fresh_left l n r)
 fresh_done l n p r left e o q = (
   ap answer_told (sym e),
@@ -63,7 +64,7 @@ module _ (N : OnNetwork) (r list : List ℕ) where
   pub steps_refused : (x : Refusal) → equation_check N r ≡ Err x → (steps_said (Err (record { refusal = x; done = 0 })) ≡ steps_row N r list) × (r ≡ steps_left N r list)
   steps_refused x e = refused x (rest_stops N r (many_case list ∷ list_case n list ∷ []) e)
 
-  module _ (p : Places) (e : equation_check N r ≡ Ok tt) where
+  module _ (p : PerPlace Component) (e : equation_check N r ≡ Ok tt) where
     pub list_refused : (x : Refusal) → first_of ((many_case list).check ∷ (list_case n list).check ∷ []) ≡ Err x → (steps_said (Err (record { refusal = x; done = 0 })) ≡ steps_row N r list) × (r ≡ steps_left N r list)
     list_refused x q = refused x (rest_goes_on N r (many_case list ∷ list_case n list ∷ []) e q)
 
@@ -101,7 +102,7 @@ module _ (N : OnNetwork) (r : List ℕ) where
   pub equation_refused : (x : Refusal) → equation_check N r ≡ Err x → equation_said (Err x) ≡ equation_row N r
   equation_refused x e = ap (λ (c : Check). yes_by c (solves (components N) n (arcs_on N) (matrix_on N r))) (sym e)
 
-  module _ (p : Places) (e : equation_check N r ≡ Ok tt) (o : Placed N.language p) (g : Given (places_of p) n arcs r) {b : Bool} (q : b ≡ solves (places_of p) n (matrix_in places n arcs) (matrix_in places n r)) where
+  module _ (p : PerPlace Component) (e : equation_check N r ≡ Ok tt) (o : Placed N.language p) (g : Given (places_of p) n arcs r) {b : Bool} (q : b ≡ solves (places_of p) n (matrix_in places n arcs) (matrix_in places n r)) where
     pub equation_answers : equation_said (Ok b) ≡ equation_row N r
     equation_answers =
         ap (yes_by (Ok tt)) (q ∙ solves_go (components N) p (few N.language) o.placed (placed_sound N.language p o) n arcs (arcs_on N) (matrix_in places n arcs)

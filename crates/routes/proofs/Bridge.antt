@@ -11,7 +11,7 @@ use lib.ListN.{length, length-take, length-drop}
 use Rattle.algebra.specs.Step.{Step, row, settle, fresh, routed, step}
 use Rattle.algebra.proofs.Embedding.{Embedding, Goes, GoesTo, fresh_goes, routed_goes, step_goes}
 use Rattle.weights.specs.declared.Component.{Component}
-use Rattle.weights.specs.declared.Places.{Places}
+use Rattle.weights.specs.declared.PerPlace.{PerPlace}
 use Rattle.weights.specs.Sizes.{places, weight_words}
 use Rattle.weights.specs.Weights.{Weight, none, route, Valid, ValidValues, Sound, language}
 use Rattle.weights.specs.Languages.{padded, places_of}
@@ -112,7 +112,7 @@ abbrev pub StepsIn : ℕ → List Step → Type 0
 StepsIn n [] = Unit {0}
 StepsIn n (s ∷ steps) = StepIn n s × StepsIn n steps
 
-module _ (cs : List Component) (p : Places) (h : length cs ≤ places) (placed : places_of p ≡ padded places cs) (sound : Sound cs) (n : ℕ) (a : List ℕ) where
+module _ (cs : List Component) (p : PerPlace Component) (h : length cs ≤ places) (placed : places_of p ≡ padded places cs) (sound : Sound cs) (n : ℕ) (a : List ℕ) where
   abbrev 𝓟 : List Component
   𝓟 = places_of p
 

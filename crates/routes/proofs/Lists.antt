@@ -16,7 +16,7 @@ use Rattle.algebra.specs.Step.{Step, row, settle, step}
 use Rattle.weights.specs.declared.Component.{Component}
 use Rattle.weights.specs.Sizes.{places}
 use Rattle.weights.proofs.Ordering.{clash}
-use Rattle.weights.specs.declared.Places.{Places}
+use Rattle.weights.specs.declared.PerPlace.{PerPlace}
 use Rattle.weights.specs.Weights.{language}
 use Rattle.weights.specs.Languages.{places_of}
 use Rattle.matrices.specs.Buffers.{matrix_words, matrix_in}
@@ -174,23 +174,23 @@ module _ (cs : List Component) (n : ℕ) (a r left : List ℕ) {s : Step} where
   settle_left_lem j q e = subst (λ (z : Step). left ≡ matrix_words n (cond (step_fits cs n (matrix_in places n a) (matrix_in places n r) z) (step (language cs) n (matrix_in places n a) z (matrix_in places n r)) (matrix_in places n r))) q e
 
 -- after a step the matrix is well formed again
-pub step_given : (p : Places) (n : ℕ) (a r : List ℕ) → Given (places_of p) n a r → (s : Step) (left : List ℕ) → left ≡ step_left (places_of p) n a r s → Given (places_of p) n a left
+pub step_given : (p : PerPlace Component) (n : ℕ) (a r : List ℕ) → Given (places_of p) n a r → (s : Step) (left : List ℕ) → left ≡ step_left (places_of p) n a r s → Given (places_of p) n a left
 unfolding step_left
 step_given p n a r g (row i) left e = row_given p n a r g i left e
 step_given p n a r g (settle j) left e = settle_given p n a r g j left e
 
 -- ---- a run in the midst: after k steps the buffer holds r, which the rest of the list goes on from
 
-pub record Running (p : Places) (n : ℕ) (a start : List ℕ) (list : List ℕ) (k : ℕ) (r : List ℕ) : Type 0 where
+pub record Running (p : PerPlace Component) (n : ℕ) (a start : List ℕ) (list : List ℕ) (k : ℕ) (r : List ℕ) : Type 0 where
   pub well : Given (places_of p) n a r
   pub steps : AllSteps n (drop k list)
   pub left : run_left (places_of p) n a start (map step_of list) ≡ run_left (places_of p) n a r (map step_of (drop k list))
   pub done : run_done (places_of p) n a start (map step_of list) ≡ k + run_done (places_of p) n a r (map step_of (drop k list))
 
-pub running_none : (p : Places) (n : ℕ) (a r list : List ℕ) → Given (places_of p) n a r → AllSteps n list → Running p n a r list 0 r
+pub running_none : (p : PerPlace Component) (n : ℕ) (a r list : List ℕ) → Given (places_of p) n a r → AllSteps n list → Running p n a r list 0 r
 running_none p n a r list g s = record { well = g; steps = s; left = refl; done = omega arith }
 
-module _ (p : Places) (n : ℕ) (a start list : List ℕ) (k : ℕ) (r r' : List ℕ) (o : Running p n a start list k r) where
+module _ (p : PerPlace Component) (n : ℕ) (a start list : List ℕ) (k : ℕ) (r r' : List ℕ) (o : Running p n a start list k r) where
   module _ (h : k < length list) (e : r' ≡ step_left (places_of p) n a r (step_of (get_or list k 0))) where
     pub running_more : {ok : Bool} → ok ≡ step_fits (places_of p) n (matrix_in places n a) (matrix_in places n r) (step_of (get_or list k 0)) → ok ≡ true → Running p n a start list (k + 1) r'
     running_more f t = record {

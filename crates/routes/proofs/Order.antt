@@ -9,7 +9,7 @@ use Rattle.refusals.proofs.First.{or_passed, both_pass, stops, goes_on}
 use Rattle.refusals.proofs.Cases.{check_append}
 use Rattle.weights.specs.declared.Component.{Component}
 use Rattle.weights.specs.declared.Language.{Language}
-use Rattle.weights.specs.declared.Places.{Places}
+use Rattle.weights.specs.declared.PerPlace.{PerPlace}
 use Rattle.weights.specs.Sizes.{places, arc_sum, matrix_sum}
 use Rattle.weights.specs.Weights.{Sound}
 use Rattle.weights.specs.Languages.{components_of, places_of}
@@ -32,14 +32,14 @@ use Rattle.std.specs.Prelude.{Ok, Err}
 -- ---- a language in its places
 
 -- the language's own limits are sound
-pub placed_sound : (l : Language) (p : Places) → Placed l p → Sound (components_of l)
+pub placed_sound : (l : Language) (p : PerPlace Component) → Placed l p → Sound (components_of l)
 placed_sound l p o = sound_unpad places (components_of l) (few l) (subst Sound o.placed o.sound)
 
 -- entries are checked alike in the places and in the language
-pub arcs_same : (l : Language) (p : Places) → Placed l p → (n : ℕ) (a : List ℕ) → Square n a → (arcs_case (places_of p) n a).check ≡ (arcs_case (components_of l) n a).check
+pub arcs_same : (l : Language) (p : PerPlace Component) → Placed l p → (n : ℕ) (a : List ℕ) → Square n a → (arcs_case (places_of p) n a).check ≡ (arcs_case (components_of l) n a).check
 arcs_same l p o n a q = ap (λ (cs : List Component). (arcs_case cs n a).check) o.placed ∙ check_pad 1 arc_sum (components_of l) n a (few l) q
 
-pub routes_same : (l : Language) (p : Places) → Placed l p → (n : ℕ) (r : List ℕ) → Square n r → (routes_case (places_of p) n r).check ≡ (routes_case (components_of l) n r).check
+pub routes_same : (l : Language) (p : PerPlace Component) → Placed l p → (n : ℕ) (r : List ℕ) → Square n r → (routes_case (places_of p) n r).check ≡ (routes_case (components_of l) n r).check
 routes_same l p o n r q = ap (λ (cs : List Component). (routes_case cs n r).check) o.placed ∙ check_pad 2 matrix_sum (components_of l) n r (few l) q
 
 -- ---- the entrance of the calls whose one size is n
@@ -65,7 +65,7 @@ module _ (l : Language) (n : ℕ) (r : List ℕ) {found measured : Check} (en : 
   pub fresh_stops : {x : Refusal} → entrance_check l found measured ≡ Err x → fresh_check l n r ≡ Err x
   fresh_stops e = entrance_refuses l (nodes_case n ∷ []) (length_case 2 n r ∷ []) [] found measured (nodes_only n en) long e
 
-  pub fresh_enters : {p : Places} → Entered l found measured p → (fresh_check l n r ≡ Ok tt) × Square n r
+  pub fresh_enters : {p : PerPlace Component} → Entered l found measured p → (fresh_check l n r ≡ Ok tt) × Square n r
   fresh_enters o = (
     entrance_leaves l (nodes_case n ∷ []) (length_case 2 n r ∷ []) [] found measured (nodes_only n en) long o refl,
     length_passed 2 n r (nodes_found n (sizes_passed l (nodes_case n ∷ []) (length_case 2 n r ∷ []) [] found measured (nodes_only n en) long o)).1
@@ -103,7 +103,7 @@ module _ (N : OnNetwork) (r : List ℕ) {found in_arcs in_routes measured : Chec
   pub matrices_stop : {x : Refusal} → entrance_check N.language found measured ≡ Err x → equation_check N r ≡ Err x
   matrices_stop e = entrance_refuses N.language sizes lengths entries found measured (nodes_only n en) both_long e
 
-  module _ (p : Places) (o : Entered N.language found measured p) where
+  module _ (p : PerPlace Component) (o : Entered N.language found measured p) where
     pub squares : Square n arcs × Square n r
     squares =
         let small = (nodes_found n (sizes_passed N.language sizes lengths entries found measured (nodes_only n en) both_long o)).1 in

@@ -13,7 +13,8 @@ use Rattle.routes.specs.Ready.{MatricesReady}
 use Rattle.guards.proofs.Unique.{one_ready}
 use Rattle.std.specs.Prelude.{Result, Bool, Ok, Err}
 use Rattle.refusals.specs.declared.Refusal.{Refusal}
-use Rattle.weights.specs.declared.Places.{Places}
+use Rattle.weights.specs.declared.PerPlace.{PerPlace}
+use Rattle.weights.specs.declared.Component.{Component}
 
 -- what the buffer of fresh holds is pinned with the answer
 pub fresh_answers_equal : (l : Language) (n : ℕ) (r : List ℕ) (x y : Check) (left right : List ℕ)
@@ -46,5 +47,5 @@ equation_answers_equal N r x y p q = equation_one x y (equation_pins p q)
 
 -- ---- the checks
 
-pub ready_one : (N : OnNetwork) (r : List ℕ) (x y : Result Places Refusal) → MatricesReady N r x → MatricesReady N r y → x ≡ y
+pub ready_one : (N : OnNetwork) (r : List ℕ) (x y : Result (PerPlace Component) Refusal) → MatricesReady N r x → MatricesReady N r y → x ≡ y
 ready_one N r = one_ready N.language (equation_check N r) (MatricesReady N r) (λ p o. (o.0, o.1)) (λ x e. e)

@@ -15,11 +15,11 @@ use Rattle.routes.specs.declared.Step.{Step}
 use Rattle.routes.specs.declared.Step.TheVariants.{Row, Settle}
 use Rattle.guards.specs.Checks.{is_step}
 use Rattle.routes.specs.Calls.{equation_check, step_fits}
-use Rattle.weights.specs.declared.Places.{Places}
+use Rattle.weights.specs.declared.PerPlace.{PerPlace}
 use Rattle.refusals.specs.declared.Refusal.{Refusal}
 
 -- what the checks of a call on A and R give: the places of a lawful language and two well-formed matrices, or the first refusal
-abbrev pub MatricesReady : OnNetwork → List ℕ → Result Places Refusal → Type 0
+abbrev pub MatricesReady : OnNetwork → List ℕ → Result (PerPlace Component) Refusal → Type 0
 MatricesReady N r (Ok p) = (equation_check N r ≡ Ok tt) × Placed N.language p × Given (places_of p) N.n N.arcs r
 MatricesReady N r (Err x) = equation_check N r ≡ Err x
 

@@ -9,7 +9,8 @@ use native.Mathlib.Omega.{arith}
 use lib.Dec.{leb, eqb}
 use lib.ListN.{length, get_or, take, drop}
 use lib.Seq.{drop-cons}
-use Rattle.weights.specs.declared.Places.{Places}
+use Rattle.weights.specs.declared.PerPlace.{PerPlace}
+use Rattle.weights.specs.declared.Component.{Component}
 use Rattle.weights.specs.declared.Weight as declared
 use Rattle.weights.specs.Sizes.{places, weight_words, entry_words, ones}
 use Rattle.weights.specs.Weights.{Weight, none, route}
@@ -71,7 +72,7 @@ module _ (mode : Mode) (t : ℕ) (l : List ℕ) where
   ill false true e = apart (sym e)
   ill false false e = refl
 
-module _ (mode : Mode) (cap : ℕ) (p : Places) where
+module _ (mode : Mode) (cap : ℕ) (p : PerPlace Component) where
   read_well : (a b c d t : ℕ) (w : Weight) → reading cap (places_of p) (a ∷ b ∷ c ∷ d ∷ []) ≡ good w → reading_entry mode cap (places_of p) (a ∷ b ∷ c ∷ d ∷ t ∷ []) ≡ route_read mode w t
   read_well a b c d t w e = rw (five_ones a b c d t) (well mode t (a ∷ b ∷ c ∷ d ∷ []) (all_are ones (a ∷ b ∷ c ∷ d ∷ [])) (fits cap (places_of p) (a ∷ b ∷ c ∷ d ∷ [])) w e)
 

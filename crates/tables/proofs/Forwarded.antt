@@ -13,7 +13,7 @@ use Rattle.algebra.specs.Modes.{carried, forwarded}
 use Rattle.algebra.proofs.Reach.{column_solves}
 use Rattle.weights.specs.declared.Component.{Component}
 use Rattle.weights.specs.declared.Component.TheVariants.{Dist, Width, Class, Gain}
-use Rattle.weights.specs.declared.Places.{Places}
+use Rattle.weights.specs.declared.PerPlace.{PerPlace}
 use Rattle.weights.specs.Sizes.{places, ones, arc_sum, matrix_sum, table_sum}
 use Rattle.weights.specs.Weights.{Weight, none, route, Valid, ValidValue, ValidValues, Sound, language}
 use Rattle.weights.specs.Laws.{test_d, test_u}
@@ -44,7 +44,7 @@ entered_applied mode a b cs (route xs) (mapped ys t) vw mw h = record {
   most = join_most cs a b (route xs) (route ys) mw h.most;
 }
 
-module _ (mode : Mode) (p : Places) (n m : ℕ) (r s : List ℕ) (g : GivenTable mode (places_of p) n m r s) where
+module _ (mode : Mode) (p : PerPlace Component) (n m : ℕ) (r s : List ℕ) (g : GivenTable mode (places_of p) n m r s) where
   abbrev sum : ℕ → ℕ → Entry
   sum = forwarded (language (places_of p)) (mode_of mode (places_of p)) n (matrix_in places n r) (table_in places m s)
 
@@ -73,7 +73,7 @@ values_in cap (c ∷ cs) [] h k = absurd k
 values_in cap (c ∷ cs) (x ∷ xs) h k = rw (value_in cap c x h.0 k.0, values_in cap cs xs h.1 k.1)
 
 -- an entry's words are well-formed
-reads4 : (mode : Mode) (cap : ℕ) (p : Places) (e : Entry) → cap < ones → Entered mode cap (places_of p) e → is_good_entry (reading_entry mode cap (places_of p) (words_of e)) ≡ true
+reads4 : (mode : Mode) (cap : ℕ) (p : PerPlace Component) (e : Entry) → cap < ones → Entered mode cap (places_of p) e → is_good_entry (reading_entry mode cap (places_of p) (words_of e)) ≡ true
 unfolding words_of
 reads4 mode cap p empty l h = refl
 reads4 mode cap p (mapped [] t) l h = absurd h.valid.0
@@ -86,7 +86,7 @@ reads4 mode cap p (mapped (x ∷ y ∷ z ∷ v ∷ []) t) l h =
     rw (ne, values_in cap (places_of p) (x ∷ y ∷ z ∷ v ∷ []) h.most h.valid.0, le-leb t (largest_t mode) h.valid.1)
 reads4 mode cap p (mapped (x ∷ y ∷ z ∷ v ∷ u ∷ xs) t) l h = absurd h.valid.0.1.1.1.1
 
-module _ (mode : Mode) (p : Places) (n m : ℕ) (r s : List ℕ) (g : GivenTable mode (places_of p) n m r s) where
+module _ (mode : Mode) (p : PerPlace Component) (n m : ℕ) (r s : List ℕ) (g : GivenTable mode (places_of p) n m r s) where
   abbrev F : ℕ → ℕ → Entry
   F = forwarded (language (places_of p)) (mode_of mode (places_of p)) n (matrix_in places n r) (table_in places m s)
 

@@ -11,7 +11,7 @@ use lib.ListN.{get_or}
 use Rattle.algebra.specs.Order.{pick, best_of}
 use Rattle.algebra.specs.Modes.{forwarded}
 use Rattle.weights.specs.declared.Component.{Component}
-use Rattle.weights.specs.declared.Places.{Places}
+use Rattle.weights.specs.declared.PerPlace.{PerPlace}
 use Rattle.weights.specs.Sizes.{places, ones, arc_sum, matrix_sum}
 use Rattle.weights.specs.Weights.{Weight, none, route, language}
 use Rattle.weights.specs.Languages.{places_of, SmallLimits}
@@ -62,7 +62,7 @@ pub record Entered (mode : Mode) (b : ℕ) (cs : List Component) (e : Entry) : T
   pub valid : ValidEntry (ValidT mode) cs e
   pub most : AtMost b (weight_in e)
 
-module _ (mode : Mode) (cap : ℕ) (p : Places) (big : arc_sum ≤ cap) (limits : SmallLimits 65535 (places_of p)) where
+module _ (mode : Mode) (cap : ℕ) (p : PerPlace Component) (big : arc_sum ≤ cap) (limits : SmallLimits 65535 (places_of p)) where
   read_entered : (a b c d t : ℕ) → is_good_entry (reading_entry mode cap (places_of p) (a ∷ b ∷ c ∷ d ∷ t ∷ [])) ≡ true → Entered mode cap (places_of p) (decoded_entry places (a ∷ b ∷ c ∷ d ∷ t ∷ []))
   read_entered a b c d t = rw (five_ones a b c d t) (go (all_are ones (a ∷ b ∷ c ∷ d ∷ [])) (eqb t ones) (fits cap (places_of p) (a ∷ b ∷ c ∷ d ∷ [])) refl (leb t (largest_t mode)) refl)
     where
@@ -85,7 +85,7 @@ module _ (mode : Mode) (cap : ℕ) (p : Places) (big : arc_sum ≤ cap) (limits 
       let q = five_words s at (in_table n m s f.sized i d hi hd).room in
       rw q (read_entered (get_or s at 0) (get_or s (at + 1) 0) (get_or s (at + 2) 0) (get_or s (at + 3) 0) (get_or s (at + 4) 0) (ap (λ (l : List ℕ). is_good_entry (reading_entry mode cap (places_of p) l)) (sym q) ∙ f.reads i d hi hd))
 
-module _ (mode : Mode) (p : Places) (n m : ℕ) (r s : List ℕ) (g : GivenTable mode (places_of p) n m r s) where
+module _ (mode : Mode) (p : PerPlace Component) (n m : ℕ) (r s : List ℕ) (g : GivenTable mode (places_of p) n m r s) where
   -- weights and entries are small enough to be joined
   pub route_most : (i k : ℕ) → i < n → k < n → AtMost 2147483647 (matrix_in places n r i k)
   route_most i k hi hk = most_weaken matrix_sum 2147483647 (matrix_in places n r i k) (omega arith) (formed_most matrix_sum p n r (omega arith) g.limits g.routes i k hi hk)

@@ -7,6 +7,7 @@ use mathlib.Core.List.{List, [], ◌∷◌, ◌++◌}
 use native.Mathlib.Omega.{arith}
 use borrow.Author.Tests.{le-leb, lt-leb, leb-true}
 use lib.ListN.{length, drop}
+use Rattle.std.specs.Prelude.{Ok, Err, Some}
 use Rattle.refusals.specs.declared.Refusal.{Refusal}
 use Rattle.refusals.specs.declared.Refusal.TheVariants.{Length}
 use Rattle.refusals.specs.Told.{told, done}
@@ -19,8 +20,7 @@ use Rattle.numbers.specs.declared.Node.{Node}
 use Rattle.weights.specs.declared.Component.{Component}
 use Rattle.weights.specs.declared.Language.{Language}
 use Rattle.weights.specs.Languages.{components_of, language_cases, language_check}
-use Rattle.laws.specs.declared.Law.{Law}
-use Rattle.laws.specs.declared.LawAnswer.TheVariants.{Laws, Refused as NoLaws}
+use Rattle.laws.specs.declared.LawReport.{LawReport}
 use Rattle.laws.specs.Report.{Report, report_of, report, law_of, answer_row}
 use Rattle.guards.proofs.Singles.{nodes_passed}
 use Rattle.hops.specs.Calls.{HopRow, hop_row, hop_said, hop_cases}
@@ -38,7 +38,6 @@ use Rattle.refusals.specs.Cases.{checks_of}
 use Rattle.handover.proofs.Answers.{lender_row_by}
 use Rattle.guards.specs.OnNetwork.{OnNetwork}
 use Rattle.files.specs.Cases.{short_case}
-use Rattle.std.specs.Prelude.{Ok, Err, Some}
 
 -- ---- any call
 
@@ -117,26 +116,26 @@ module _ (l : Language) (s : List ℕ) where
   by_check : (r : Refusal) → report_check l s ≡ Err r → Reports (reply_of (told r) 0) s
   by_check r e = (ap (λ (c : Check). reply_by c (report l)) (sym e), ap (λ (c : Check). left_by c (report l)) (sym e))
 
-  pub laws_refused : (r : Refusal) → answer_row (NoLaws r) ≡ report l → Reports (reply_of (told r) 0) s
+  pub laws_refused : (r : Refusal) → answer_row (Err r) ≡ report l → Reports (reply_of (told r) 0) s
   laws_refused r e = by_check r (laws_order ∙ stops (result_and (short_case 6 report_words s).check (Ok tt)) (go (language_check l) (components_of l) e))
     where
-      go : (c : Check) (cs : List Component) → answer_row (NoLaws r) ≡ report_of c cs → c ≡ Err r
+      go : (c : Check) (cs : List Component) → answer_row (Err r) ≡ report_of c cs → c ≡ Err r
       go (Ok _) cs e = absurd (told_not_done r (ap (λ (w : Report). w.told) e))
       go (Err x) cs e = ap Err (sym (told_one r x (ap (λ (w : Report). w.told) e)))
 
-  module _ (d u c : Law) (e : answer_row (Laws d u c) ≡ report l) where
+  module _ (laws : LawReport) (e : answer_row (Ok laws) ≡ report l) where
     passes : language_check l ≡ Ok tt
     passes = go (language_check l) (components_of l) e
       where
-        go : (k : Check) (cs : List Component) → answer_row (Laws d u c) ≡ report_of k cs → k ≡ Ok tt
+        go : (k : Check) (cs : List Component) → answer_row (Ok laws) ≡ report_of k cs → k ≡ Ok tt
         go (Ok _) cs e = refl
         go (Err x) cs e = absurd (told_not_done x (sym (ap (λ (w : Report). w.told) e)))
 
     pub report_short : length s < report_words → Reports (reply_of (told (Length 6 0)) 0) s
     report_short h = by_check (Length 6 0) (laws_order ∙ goes_on passes (stops (Ok tt) (no_room 6 report_words s h)))
 
-    pub report_written : (s' : List ℕ) → report_words ≤ length s → s' ≡ laws_words (law_of d) (law_of u) (law_of c) ++ drop report_words s
-        → Reports (reply_of done (held_laws (law_of d) (law_of u) (law_of c))) s'
+    pub report_written : (s' : List ℕ) → report_words ≤ length s → s' ≡ laws_words (law_of laws.d) (law_of laws.u) (law_of laws.c) ++ drop report_words s
+        → Reports (reply_of done (held_laws (law_of laws.d) (law_of laws.u) (law_of laws.c))) s'
     report_written s' h f =
         let k : report_check l s ≡ Ok tt = laws_order ∙ goes_on passes (goes_on (room 6 report_words s h) refl) in (
           ap (reply_by (Ok tt)) e ∙ ap (λ (c : Check). reply_by c (report l)) (sym k),

@@ -9,7 +9,6 @@ use door::replies::{done, refused};
 use door::reports::{held_laws, put_laws};
 use door::{PROBLEM_WORDS, REPORT_WORDS, Reply};
 use files::ReadAnswer;
-use laws::LawAnswer;
 use refusals::{Check, Refusal};
 
 // 9 on arcs, mapping and problem.
@@ -65,13 +64,13 @@ pub extern "C" fn tronglephu_laws(numbers: &[u16], report: &mut [u32]) -> Reply
     ensures report_after { report.new ≡ report_left (language_of numbers.now) report.old }
 {
     match laws::laws(language(numbers)) {
-        LawAnswer::Refused(x) => refused(x, 0),
-        LawAnswer::Laws { d, u, c } => {
+        Err(x) => refused(x, 0),
+        Ok(laws) => {
             if report.len() < REPORT_WORDS {
                 return refused(Refusal::Length { which: 6, place: 0 }, 0);
             }
-            put_laws(report, d, u, c);
-            done(held_laws(d, u, c))
+            put_laws(report, laws);
+            done(held_laws(laws))
         }
     }
 }

@@ -14,7 +14,7 @@ use Rattle.refusals.proofs.First.{passed_not, or_passed, first_passes}
 use Rattle.weights.specs.declared.Component.{Component}
 use Rattle.weights.specs.declared.Component.TheVariants.{Dist, Width, Class, Gain}
 use Rattle.weights.specs.declared.Language.{Language}
-use Rattle.weights.specs.declared.Places.{Places}
+use Rattle.weights.specs.declared.PerPlace.{PerPlace}
 use Rattle.weights.specs.Sizes.{places}
 use Rattle.weights.specs.Weights.{Sound, SoundLimit}
 use Rattle.weights.specs.Languages.{components_of, count_case, limit_case, sound_limit, limits_from, padded, places_of, language_check}
@@ -86,22 +86,22 @@ placed_is (suc (suc (suc (suc n)))) a b c d =
     rw (lt-ltb 0 (suc (suc (suc (suc n)))) (omega arith), lt-ltb 1 (suc (suc (suc (suc n)))) (omega arith), lt-ltb 2 (suc (suc (suc (suc n)))) (omega arith), lt-ltb 3 (suc (suc (suc (suc n)))) (omega arith))
 
 -- the check of the places is the check of the components
-pub places_check : (l : Language) (p : Places) → 1 ≤ l.count → l.count ≤ places → places_of p ≡ padded places (components_of l) → language_check l ≡ limits_from 0 (places_of p)
+pub places_check : (l : Language) (p : PerPlace Component) → 1 ≤ l.count → l.count ≤ places → places_of p ≡ padded places (components_of l) → language_check l ≡ limits_from 0 (places_of p)
 places_check l p h k e = count_in l h k ∙ sym (limits_pad places 0 (components_of l) (few l)) ∙ ap (limits_from 0) (sym e)
 
-pub bad_first : (p : Places) → sound_limit p.first ≡ false → limits_from 0 (places_of p) ≡ Err (BadComponent 0 0)
+pub bad_first : (p : PerPlace Component) → sound_limit p.first ≡ false → limits_from 0 (places_of p) ≡ Err (BadComponent 0 0)
 bad_first p e = rw e
 
-pub bad_second : (p : Places) → sound_limit p.first ≡ true → sound_limit p.second ≡ false → limits_from 0 (places_of p) ≡ Err (BadComponent 0 1)
+pub bad_second : (p : PerPlace Component) → sound_limit p.first ≡ true → sound_limit p.second ≡ false → limits_from 0 (places_of p) ≡ Err (BadComponent 0 1)
 bad_second p e f = rw (e, f)
 
-pub bad_third : (p : Places) → sound_limit p.first ≡ true → sound_limit p.second ≡ true → sound_limit p.third ≡ false → limits_from 0 (places_of p) ≡ Err (BadComponent 0 2)
+pub bad_third : (p : PerPlace Component) → sound_limit p.first ≡ true → sound_limit p.second ≡ true → sound_limit p.third ≡ false → limits_from 0 (places_of p) ≡ Err (BadComponent 0 2)
 bad_third p e f g = rw (e, f, g)
 
-pub bad_fourth : (p : Places) → sound_limit p.first ≡ true → sound_limit p.second ≡ true → sound_limit p.third ≡ true → sound_limit p.fourth ≡ false → limits_from 0 (places_of p) ≡ Err (BadComponent 0 3)
+pub bad_fourth : (p : PerPlace Component) → sound_limit p.first ≡ true → sound_limit p.second ≡ true → sound_limit p.third ≡ true → sound_limit p.fourth ≡ false → limits_from 0 (places_of p) ≡ Err (BadComponent 0 3)
 bad_fourth p e f g h = rw (e, f, g, h)
 
-pub bad_none : (p : Places) → sound_limit p.first ≡ true → sound_limit p.second ≡ true → sound_limit p.third ≡ true → sound_limit p.fourth ≡ true → limits_from 0 (places_of p) ≡ Ok tt
+pub bad_none : (p : PerPlace Component) → sound_limit p.first ≡ true → sound_limit p.second ≡ true → sound_limit p.third ≡ true → sound_limit p.fourth ≡ true → limits_from 0 (places_of p) ≡ Ok tt
 bad_none p e f g h = rw (e, f, g, h)
 
 -- a language that passes has sound limits

@@ -3,7 +3,8 @@ use mathlib.Core.Path.{◌≡◌, refl, sym, ap, ◌∙◌}
 use mathlib.Core.Bool.{true, false}
 use Rattle.refusals.proofs.First.{passed_not, refused_one}
 use Rattle.weights.specs.declared.Language.{Language}
-use Rattle.weights.specs.declared.Places.{Places}
+use Rattle.weights.specs.declared.PerPlace.{PerPlace}
+use Rattle.weights.specs.declared.Component.{Component}
 use Rattle.weights.specs.declared.Weight as declared
 use Rattle.weights.specs.declared.Weight.TheVariants.{Route, NoRoute}
 use Rattle.weights.specs.Languages.{places_of, CheckSays}
@@ -25,7 +26,7 @@ read_one (Some v) None p = let z : true ≡ false = cc in clash true refl z
 read_one None (Some w) p = let z : true ≡ false = cc in clash true refl z
 read_one None None p = refl
 
-pub places_one : (p q : Places) → places_of p ≡ places_of q → p ≡ q
+pub places_one : (p q : PerPlace Component) → places_of p ≡ places_of q → p ≡ q
 places_one p q e = λ i. record { first = a i; second = b i; third = c i; fourth = d i }
   where
     a : p.first ≡ q.first
@@ -40,7 +41,7 @@ places_one p q e = λ i. record { first = a i; second = b i; third = c i; fourth
     d : p.fourth ≡ q.fourth
     d = cc
 
-pub checked_one : (l : Language) (x y : Result Places Refusal) → CheckSays l x → CheckSays l y → x ≡ y
+pub checked_one : (l : Language) (x y : Result (PerPlace Component) Refusal) → CheckSays l x → CheckSays l y → x ≡ y
 checked_one l (Ok p) (Ok q) h k = ap Ok (places_one p q (h.1 ∙ sym k.1))
 checked_one l (Ok p) (Err r) h k = absurd (passed_not r (sym h.0 ∙ k))
 checked_one l (Err r) (Ok q) h k = absurd (passed_not r (sym k.0 ∙ h))

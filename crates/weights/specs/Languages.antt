@@ -6,7 +6,7 @@ use Rattle.refusals.specs.Cases.{Case, due_unless, first_from, due_at_first, che
 use Rattle.weights.specs.declared.Component.{Component}
 use Rattle.weights.specs.declared.Component.TheVariants.{Dist, Width, Class, Gain}
 use Rattle.weights.specs.declared.Language.{Language}
-use Rattle.weights.specs.declared.Places.{Places}
+use Rattle.weights.specs.declared.PerPlace.{PerPlace}
 use Rattle.weights.specs.Sizes.{places}
 use Rattle.weights.specs.Weights.{SoundLimit}
 use Rattle.refusals.specs.Checks.{Check}
@@ -54,7 +54,7 @@ padded (suc n) [] = Class 0 ∷ padded n []
 padded (suc n) (c ∷ cs) = c ∷ padded n cs
 
 -- the four places that the code works on, as a list of components
-abbrev pub places_of : Places → List Component
+abbrev pub places_of : PerPlace Component → List Component
 places_of p = p.first ∷ p.second ∷ p.third ∷ p.fourth ∷ []
 
 -- a width's or a class's limit is at most n
@@ -76,6 +76,6 @@ abbrev pub language_check : Language → Check
 language_check l = check_of (language_cases l)
 
 -- the language passes, with its places, or is refused
-abbrev pub CheckSays : Language → Result Places Refusal → Type 0
+abbrev pub CheckSays : Language → Result (PerPlace Component) Refusal → Type 0
 CheckSays l (Ok p) = (language_check l ≡ Ok tt) × (places_of p ≡ padded places (components_of l)) × SmallLimits 65535 (places_of p)
 CheckSays l (Err r) = language_check l ≡ Err r

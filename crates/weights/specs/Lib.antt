@@ -2,6 +2,7 @@ pub mod Sizes
 pub mod Weights
 pub mod Laws
 pub mod Languages
+pub mod PerPlace
 pub mod Values
 pub mod Gains
 pub mod Words

@@ -41,13 +41,31 @@ pub struct Language {
     pub fourth: Component,
 }
 
+// One thing for each place of a language.
+#[derive(Clone, Copy, Debug, Default, PartialEq, Eq)]
+pub struct PerPlace<T> {
+    pub first: T,
+    pub second: T,
+    pub third: T,
+    pub fourth: T,
+}
+
 // A language in four places, an unused one holding class 0, whose single value is the unused word 0.
-#[derive(Clone, Copy)]
-pub struct Places {
-    pub first: Component,
-    pub second: Component,
-    pub third: Component,
-    pub fourth: Component,
+pub type Places = PerPlace<Component>;
+
+impl Places {
+    // What f makes of the component in each place.
+    pub fn map<T, F: Fn(Component) -> T>(self, f: F) -> PerPlace<T>
+        requires { F.IsAlwaysCallable f }
+        ensures { F.post f self.first result.first × F.post f self.second result.second × F.post f self.third result.third × F.post f self.fourth result.fourth }
+    {
+        PerPlace {
+            first: f(self.first),
+            second: f(self.second),
+            third: f(self.third),
+            fourth: f(self.fourth),
+        }
+    }
 }
 
 // A route has a value in each place.

@@ -1,7 +1,8 @@
 use Prim.Native.Nat.{ℕ, ◌*◌, ◌-◌, ◌≤◌}
 use mathlib.Core.Path.{◌≡◌}
 use mathlib.Core.List.{List}
-use Rattle.weights.specs.declared.Places.{Places}
+use Rattle.weights.specs.declared.PerPlace.{PerPlace}
+use Rattle.weights.specs.declared.Component.{Component}
 use Rattle.weights.specs.declared.Weight as declared
 use Rattle.weights.specs.Sizes.{places, weight_words}
 use Rattle.weights.specs.Languages.{places_of}
@@ -12,7 +13,7 @@ use Rattle.matrices.specs.Parts.{folded}
 use Rattle.matrices.proofs.Blocks.{Filled}
 use Rattle.arcs.proofs.fold_arc.Given as goal
 
-abbrev pub block : Places → declared.Weight → List ℕ → ℕ → ℕ → List ℕ → ℕ → List ℕ
+abbrev pub block : PerPlace Component → declared.Weight → List ℕ → ℕ → ℕ → List ℕ → ℕ → List ℕ
 block p x r n k s j = words (folded (places_of p) (weight_of x) (matrix_in places n r k) (row_in places s) j)
 
 abbrev pub invariant-loop-j : goal.invariant-loop-j

@@ -3,7 +3,8 @@ use mathlib.Core.Path.{◌≡◌}
 use mathlib.Core.Bool.{true}
 use mathlib.Core.List.{List}
 use Rattle.algebra.specs.Best.{best}
-use Rattle.weights.specs.declared.Places.{Places}
+use Rattle.weights.specs.declared.PerPlace.{PerPlace}
+use Rattle.weights.specs.declared.Component.{Component}
 use Rattle.weights.specs.Sizes.{places}
 use Rattle.weights.specs.Weights.{language}
 use Rattle.weights.specs.Languages.{places_of}
@@ -12,7 +13,7 @@ use Rattle.matrices.specs.Steps.{Matrix, every}
 use Rattle.holding.specs.Holding.{column_has}
 use Rattle.holding.proofs.comparing.all_best.Given as goal
 
-abbrev pub bests : Places → ℕ → List ℕ → Matrix
+abbrev pub bests : PerPlace Component → ℕ → List ℕ → Matrix
 bests p n a = best (language (places_of p)) n (matrix_in places n a)
 
 abbrev pub invariant-loop-j : goal.invariant-loop-j

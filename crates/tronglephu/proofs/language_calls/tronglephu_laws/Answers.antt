@@ -8,17 +8,17 @@ use Rattle.tronglephu.proofs.language_calls.tronglephu_laws.Goals as goal
 pub returns-then-report-lt-REPORT_WORDS : goal.returns-then-report-lt-REPORT_WORDS
 returns-then-report-lt-REPORT_WORDS c = let l = c.language.result in
     let s = c.args.report.now in
-    let e = ap answer_row (sym c.in-Laws.is) ∙ c.laws.ensures in
-    let w = report_short l s _ _ _ e c.if-report-lt-REPORT_WORDS.true in
+    let e = ap answer_row (sym c.in-Ok.is) ∙ c.laws.ensures in
+    let w = report_short l s _ e c.if-report-lt-REPORT_WORDS.true in
     record {
       value = rw (sym c.language.ensures) (c.refused-then-report-lt-REPORT_WORDS.ensures ∙ w.0);
       report_after = rw (sym c.language.ensures) (w.1);
     }
 
-pub returns-in-Refused : goal.returns-in-Refused
-returns-in-Refused c = let l = c.language.result in
+pub returns-in-Err : goal.returns-in-Err
+returns-in-Err c = let l = c.language.result in
     let s = c.args.report.now in
-    let w = laws_refused l s c.in-Refused.x (ap answer_row (sym c.in-Refused.is) ∙ c.laws.ensures) in
+    let w = laws_refused l s c.in-Err.x (ap answer_row (sym c.in-Err.is) ∙ c.laws.ensures) in
     record {
       value = rw (sym c.language.ensures) (c.refused.ensures ∙ w.0);
       report_after = rw (sym c.language.ensures) (w.1);
@@ -27,8 +27,8 @@ returns-in-Refused c = let l = c.language.result in
 pub returns-else-report-lt-REPORT_WORDS : goal.returns-else-report-lt-REPORT_WORDS
 returns-else-report-lt-REPORT_WORDS c = let l = c.language.result in
     let s = c.args.report.now in
-    let e = ap answer_row (sym c.in-Laws.is) ∙ c.laws.ensures in
-    let w = report_written l s _ _ _ e _ c.if-report-lt-REPORT_WORDS.false c.put_laws.ensures in
+    let e = ap answer_row (sym c.in-Ok.is) ∙ c.laws.ensures in
+    let w = report_written l s _ e _ c.if-report-lt-REPORT_WORDS.false c.put_laws.ensures in
     record {
       value = rw (sym c.language.ensures) (c.done.ensures ∙ ap (reply_of done) c.held_laws.ensures ∙ w.0);
       report_after = rw (sym c.language.ensures) (w.1);
