@@ -14,10 +14,9 @@ pub fn in_range(c: Component, cap: u32, v: u32) -> bool
     ensures { result ≡ in_range cap c v }
 {
     match c {
-        Component::Dist => v <= cap,
+        Component::Dist | Component::Gain => v <= cap,
         Component::Width(w) => 1 <= v && v <= w as u32,
         Component::Class(k) => v <= k as u32,
-        Component::Gain => v <= cap,
     }
 }
 
