@@ -70,14 +70,19 @@ pub fn weight_at(s: &[u32], at: usize) -> Weight
     requires { at + weight_words ≤ length s.now }
     ensures { weight_of result ≡ decoded places (take weight_words (drop at s.now)) }
 {
-    if all_ones(&s[at..at + WEIGHT_WORDS]) {
+    // All four before the test: a test of the slice, which loads them in turn, was tried, and slower.
+    let first = s[at];
+    let second = s[at + 1];
+    let third = s[at + 2];
+    let fourth = s[at + 3];
+    if all_ones(&[first, second, third, fourth]) {
         return Weight::NoRoute;
     }
     Weight::Route {
-        first: s[at],
-        second: s[at + 1],
-        third: s[at + 2],
-        fourth: s[at + 3],
+        first,
+        second,
+        third,
+        fourth,
     }
 }
 
@@ -96,5 +101,9 @@ pub fn write_at(s: &mut [u32], at: usize, w: Weight)
         s[at..at + WEIGHT_WORDS].fill(ONES);
         return;
     };
-    s[at..at + WEIGHT_WORDS].copy_from_slice(&[first, second, third, fourth]);
+    // One by one: copy_from_slice was tried, and slower.
+    s[at] = first;
+    s[at + 1] = second;
+    s[at + 2] = third;
+    s[at + 3] = fourth;
 }
