@@ -1,28 +1,8 @@
 use native.Mathlib.Omega.{arith}
-use lib.ListN.{length-set}
+use Rattle.words.proofs.Writing.{put_mid_is}
+use Rattle.texts.specs.Lines.{word_refused}
 use Rattle.texts.proofs.Composing.{put_refused}
 use Rattle.texts.proofs.lines.put_refused_line.Goals as goal
 
-pub bounds-out-at-2 : goal.bounds-out-at-2
-bounds-out-at-2 c = simp length-set (omega arith)
-
-pub bounds-out-at-3 : goal.bounds-out-at-3
-bounds-out-at-3 c = simp length-set (omega arith)
-
-pub bounds-out-at-4 : goal.bounds-out-at-4
-bounds-out-at-4 c = simp length-set (omega arith)
-
-pub bounds-out-at-5 : goal.bounds-out-at-5
-bounds-out-at-5 c = simp length-set (omega arith)
-
-pub bounds-out-at-6 : goal.bounds-out-at-6
-bounds-out-at-6 c = simp length-set (omega arith)
-
-pub bounds-out-at-7 : goal.bounds-out-at-7
-bounds-out-at-7 c = simp length-set (omega arith)
-
-pub put_three-requires : goal.put_three-requires
-put_three-requires c = simp length-set (omega arith)
-
 pub returns : goal.returns
-returns c = put_refused c.args.t c.args.out.now _ c.put_three.ensures
+returns c = put_refused c.args.t c.args.out.now _ _ (put_mid_is _ _ word_refused _ _ c.copy_from_slice.ensures.after (omega arith) (omega arith)) c.put_three.ensures
