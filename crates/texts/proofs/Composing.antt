@@ -1,38 +1,32 @@
 -- Texts put piece after piece are the pieces and lines of the definitions.
 use Prim.Native.Nat.{ℕ, ◌+◌, ◌*◌, ◌≤◌, ◌<◌}
 use mathlib.Core.Path.{◌≡◌, refl, sym, ap, ◌∙◌}
-use mathlib.Core.Bool.{Bool}
 use mathlib.Core.List.{List, [], ◌∷◌, ◌++◌, append_assoc, append-nil}
-use native.Mathlib.Numerals.{add-one}
 use native.Mathlib.Omega.{arith}
 use borrow.Author.Tests.{eq-eqb, ne_eqb}
+use borrow.Rule.Slice.PartMut.{put_mid}
 use lib.ListN.{length, get_or, take, set}
-use lib.Seq.{sets, length-sets, take_all}
+use lib.Seq.{length-sets, take_all}
 use Rattle.std.proofs.lemmas.List.{take_more}
-use Rattle.refusals.specs.declared.Told.{Told}
+use Rattle.words.proofs.Writing.{put_mid_is}
 use Rattle.weights.specs.Weights.{Weight}
 use Rattle.modes.specs.Entries.{Entry}
-use Rattle.decimals.specs.Digits.{decimal}
 use Rattle.decimals.specs.Texts.{Put}
 use Rattle.decimals.proofs.Putting.{put_none, put_byte, put_then, put_as}
-use Rattle.texts.specs.Lines.{space_byte, feed_byte, dash_byte, word_laws, word_refused, field, spaced, missing, weight_text, outside_text, entry_text, bit, laws_line, route_line, entry_line, refused_line}
+use Rattle.texts.specs.Lines.{feed_byte, field, spaced, weight_text, outside_text, entry_text, route_line, entry_line}
 
 -- ---- pieces
-
--- a number after a space
-pub put_spaced : (x : ℕ) {s s' : List ℕ} {at end : ℕ} → Put 10 (set s at space_byte) (at + 1) (decimal x) s' end → Put 11 s at (field x) s' end
-put_spaced x {s = s} {at = at} p = put_then (put_byte s at space_byte) p
 
 -- no text, with any bound
 pub put_nothing : (k : ℕ) (s : List ℕ) (at : ℕ) → Put k s at [] s at
 put_nothing k s at = put_as (put_none s at) refl (omega arith)
 
--- bytes that straight-line code stores
-stored : (s : List ℕ) (at k : ℕ) (bytes s' : List ℕ) → s' ≡ sets s at bytes → length bytes ≡ k → Put k s at bytes s' (at + k)
-stored s at k bytes s' e h = record { holds = e; ends = omega (arith, h); near = omega arith; long = ap length e ∙ length-sets s at bytes }
-
-pub put_missing : (s : List ℕ) (at : ℕ) → Put 2 s at missing (set (set s at space_byte) (at + 1) dash_byte) (at + 2)
-put_missing s at = stored s at 2 missing _ (rw add-one) refl
+-- bytes copied over a part of the buffer
+pub put_bytes : (s part bytes : List ℕ) (at k : ℕ) → part ≡ bytes → k ≡ length bytes → at + length bytes ≤ length s
+    → Put (length bytes) s at bytes (put_mid at k s part) (at + length bytes)
+put_bytes s part bytes at k e q h =
+    let holds = put_mid_is s part bytes at k e q h in
+    record { holds = holds; ends = refl; near = omega arith; long = ap length holds ∙ length-sets s at bytes }
 
 -- ---- numbers, each after a space
 
@@ -103,16 +97,3 @@ pub put_three : (x y z : ℕ) {s₀ s₁ s₂ s₃ : List ℕ} {at e₁ e₂ e�
     → Put 34 s₀ at (spaced (x ∷ y ∷ z ∷ []) ++ (feed_byte ∷ [])) (set s₃ e₃ feed_byte) (e₃ + 1)
 put_three x y z {s₃ = s₃} {e₃ = e₃} p q r =
     put_as (put_then p (put_then q (put_then r (put_byte s₃ e₃ feed_byte)))) (three_text (field x) (field y) (field z) (feed_byte ∷ [])) (omega arith)
-
--- the word, and the rest of the line
-pub put_refused : (t : Told) (s s₁ s₂ : List ℕ) {at end : ℕ} → s₁ ≡ sets s at word_refused
-    → Put 34 s₁ (at + 7) (spaced (t.number ∷ t.which ∷ t.place ∷ []) ++ (feed_byte ∷ [])) s₂ end
-    → Put 41 s at (refused_line t) s₂ end
-unfolding refused_line
-put_refused t s s₁ s₂ {at = at} e p = put_then (stored s at 7 word_refused s₁ e refl) p
-
-pub put_laws : (d u c : Bool) (s s₁ s₂ : List ℕ) {at end : ℕ} → s₁ ≡ sets s at word_laws
-    → Put 34 s₁ (at + 4) (spaced (bit d ∷ bit u ∷ bit c ∷ []) ++ (feed_byte ∷ [])) s₂ end
-    → Put 38 s at (laws_line d u c) s₂ end
-unfolding laws_line
-put_laws d u c s s₁ s₂ {at = at} e p = put_then (stored s at 4 word_laws s₁ e refl) p
