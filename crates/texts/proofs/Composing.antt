@@ -3,7 +3,7 @@ use Prim.Native.Nat.{ℕ, ◌+◌, ◌*◌, ◌≤◌, ◌<◌}
 use mathlib.Core.Path.{◌≡◌, refl, sym, ap, ◌∙◌}
 use mathlib.Core.List.{List, [], ◌∷◌, ◌++◌, append_assoc, append-nil}
 use native.Mathlib.Omega.{arith}
-use borrow.Author.Tests.{eq-eqb, ne_eqb}
+use borrow.Author.Tests.{ne_eqb}
 use borrow.Rule.Slice.PartMut.{put_mid}
 use lib.ListN.{length, get_or, take, set}
 use lib.Seq.{length-sets, take_all}
@@ -52,12 +52,10 @@ module _ (xs s₀ : List ℕ) (at : ℕ) where
   spaced_all i k long few p = put_as p (ap spaced (take_all i xs long)) (omega arith)
 
 -- t after them, but in plain mode
-module _ (mode t : ℕ) (xs : List ℕ) {s₀ s₁ : List ℕ} {at e₁ : ℕ} (p : Put 44 s₀ at (spaced xs) s₁ e₁) where
-  pub put_plain : mode ≡ 1 → Put 55 s₀ at (spaced xs ++ outside_text mode t) s₁ e₁
-  put_plain e = rw (eq-eqb mode 1 e) (put_as p (sym (append-nil (spaced xs))) (omega arith))
-
-  pub put_outside : {s₂ : List ℕ} {e₂ : ℕ} → (mode ≡ 1 → ⊥) → Put 11 s₁ e₁ (field t) s₂ e₂ → Put 55 s₀ at (spaced xs ++ outside_text mode t) s₂ e₂
-  put_outside e q = rw (ne_eqb mode 1 e) (put_then p q)
+pub put_outside : (mode t : ℕ) (xs : List ℕ) {s₀ s₁ s₂ : List ℕ} {at e₁ e₂ : ℕ}
+    → Put 44 s₀ at (spaced xs) s₁ e₁ → (mode ≡ 1 → ⊥) → Put 11 s₁ e₁ (field t) s₂ e₂
+    → Put 55 s₀ at (spaced xs ++ outside_text mode t) s₂ e₂
+put_outside mode t xs p e q = rw (ne_eqb mode 1 e) (put_then p q)
 
 -- ---- lines
 
