@@ -11,7 +11,7 @@ ghost use Rattle.tables.specs.Parts.{InTable, route_read};
 use super::EntryRead;
 use modes::{Entry, Mode, choosing};
 use numbers::{Destination, Node};
-use weights::{ENTRY_WORDS, ONES, Places, Read, Weight};
+use weights::{ENTRY_WORDS, ONES, Places, Read, WEIGHT_WORDS, Weight};
 
 // Where the entry of a node and a destination begins.
 fn place(m: usize, node: Node, destination: Destination) -> usize
@@ -110,10 +110,12 @@ pub fn write_at(s: &mut [u32], at: usize, e: Entry)
         s[at..at + ENTRY_WORDS].fill(ONES);
         return;
     };
-    // One by one: copy_from_slice was tried, and slower.
-    s[at] = first;
-    s[at + 1] = second;
-    s[at + 2] = third;
-    s[at + 3] = fourth;
-    s[at + 4] = t;
+    let w = Weight::Route {
+        first,
+        second,
+        third,
+        fourth,
+    };
+    words::write_at(s, at, w);
+    s[at + WEIGHT_WORDS] = t;
 }
