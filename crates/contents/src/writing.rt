@@ -25,10 +25,7 @@ fn value(file: &[u8], count: u32, k: u32, at: u32) -> u32
     requires { ByteOffset at }
     ensures { result ≡ cond (ltb k count) (two_at file.now at) 0 }
 {
-    if k < count {
-        return two(file, at);
-    }
-    0
+    if k < count { two(file, at) } else { 0 }
 }
 
 // The weight of the record at an offset.
@@ -36,30 +33,26 @@ fn record_weight(file: &[u8], h: Head, at: u32) -> Weight
     requires { RecordOffset at × (h.language.count ≤ places) }
     ensures { words (weight_of result) ≡ words (record_weight file.now h at) }
 {
-    let l = h.language;
-    let count = l.count;
-    let first = value(file, count, 0, at + 2);
-    let second = value(file, count, 1, at + 4);
-    let third = value(file, count, 2, at + 6);
-    let fourth = value(file, count, 3, at + 8);
+    let count = h.language.count;
     Weight::Route {
-        first,
-        second,
-        third,
-        fourth,
+        first: value(file, count, 0, at + 2),
+        second: value(file, count, 1, at + 4),
+        third: value(file, count, 2, at + 6),
+        fourth: value(file, count, 3, at + 8),
     }
 }
 
 // The outside number t of the attachment at an offset.
+#[tactic(auto, unfolding(crate::specs::Contents::outside_at))]
 fn outside(file: &[u8], h: Head, at: u32) -> u32
     requires { RecordOffset at × (h.language.count ≤ places) }
     ensures { result ≡ outside_at file.now h at }
 {
     if h.mode < 2 {
-        return 0;
+        0
+    } else {
+        two(file, at + 2 + h.language.count * 2)
     }
-    let l = h.language;
-    two(file, at + 2 + l.count * 2)
 }
 
 // Writes the words of an arc, or of an attachment with its t, from a place on.
@@ -67,14 +60,9 @@ fn put(list: Listing, w: Weight, t: u32, at: usize, r: &mut [u32])
     requires { at + words_each list ≤ length r.old }
     ensures { r.new ≡ sets r.old at (with_outside list (words (weight_of w)) t) }
 {
-    match list {
-        Listing::Arcs => {
-            words::write_at(r, at, w);
-        }
-        Listing::Attachments => {
-            words::write_at(r, at, w);
-            r[at + WEIGHT_WORDS] = t;
-        }
+    words::write_at(r, at, w);
+    if let Listing::Attachments = list {
+        r[at + WEIGHT_WORDS] = t;
     }
 }
 
@@ -92,27 +80,20 @@ fn place_of(h: Head, e: Ends) -> usize
     ensures { result ≡ place_of h e }
 {
     match e {
-        Ends::Arc(from, to) => {
-            return place_in(from.0, to.0, h.n, WEIGHT_WORDS);
-        }
-        Ends::Attachment(node, to) => {
-            return place_in(node.0, to.0, h.m, ENTRY_WORDS);
-        }
+        Ends::Arc(from, to) => place_in(from.0, to.0, h.n, WEIGHT_WORDS),
+        Ends::Attachment(node, to) => place_in(node.0, to.0, h.m, ENTRY_WORDS),
     }
 }
 
 // The words that are written: n x n x 4 for the arcs, n x m x 5 for the attachments.
+#[tactic(auto, unfolding(crate::specs::Contents::size_of))]
 fn size_of(h: Head, list: Listing) -> usize
     requires { SmallHead h }
     ensures { result ≡ size_of h list }
 {
     match list {
-        Listing::Arcs => {
-            return h.n * (h.n * WEIGHT_WORDS);
-        }
-        Listing::Attachments => {
-            return h.n * (h.m * ENTRY_WORDS);
-        }
+        Listing::Arcs => h.n * (h.n * WEIGHT_WORDS),
+        Listing::Attachments => h.n * (h.m * ENTRY_WORDS),
     }
 }
 
@@ -133,11 +114,7 @@ fn clear(size: usize, r: &mut [u32])
     requires { size ≤ length r.old }
     ensures { r.new ≡ replicate size ones ++ drop size r.old }
 {
-    let mut i: usize = 0;
-    while i < size {
-        r[i] = ONES;
-        i += 1;
-    }
+    r[..size].fill(ONES);
 }
 
 // Writes a whole list of records.
@@ -146,13 +123,9 @@ fn fill(file: &[u8], h: Head, list: Listing, first: u32, count: u32, r: &mut [u3
     ensures { r.new ≡ listed_table file.now h list first count ++ drop (size_of h list) r.old }
 {
     clear(size_of(h, list), r);
-    let l = h.language;
-    let mode = h.mode;
-    let size = record_length(list, mode, l.count);
-    let mut at = first;
+    let size = record_length(list, h.mode, h.language.count);
     for e in 0..count {
-        store(file, h, list, at, r);
-        at = at + size;
+        store(file, h, list, first + e * size, r);
     }
 }
 

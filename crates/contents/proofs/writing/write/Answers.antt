@@ -10,6 +10,3 @@ fill-requires c = let lists = body_listed c.args.file.now c.args.h c.args.next c
 pub fill-requires-2 : goal.fill-requires-2
 fill-requires-2 c = let e = c.list_end-after_arcs.ensures in let lists = body_listed c.args.file.now c.args.h c.args.next c.requires.2 in
     (c.requires.0, omega (arith, c.requires.1, e.1), c.two-2.ensures.1, rw (c.two-2.ensures.0, e.0) lists.1, omega (arith, size_attachments _ c.requires.0, c.requires.4))
-
-pub returns : goal.returns
-returns c = record { arcs_after = rw c.two.ensures.0 at c.fill.ensures; mapping_after = rw (c.two-2.ensures.0, c.list_end-after_arcs.ensures.0) at c.fill-2.ensures }
