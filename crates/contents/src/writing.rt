@@ -1,5 +1,5 @@
 // The second pass: a file without a fault is written into the two buffers.
-ghost use Rattle.std.specs.Prelude.{◌≡◌, cond, ◌++◌, ◌+◌, ◌*◌, ◌≤◌, ◌<◌, ltb, length, drop, replicate};
+ghost use Rattle.std.specs.Prelude.{◌≡◌, cond, ◌++◌, ◌+◌, ◌*◌, ◌≤◌, ◌<◌, ltb, length, drop, replicate, Ok};
 ghost use Rattle.std.proofs.lemmas.List.Edits.{sets};
 ghost use Rattle.weights.specs.Sizes.{places, ones};
 ghost use Rattle.weights.specs.Values.{weight_of};
@@ -17,7 +17,6 @@ use file_bytes::two;
 use records::checks::{ends_at, record_length};
 use records::lists::list_end;
 use records::{Ends, Listing};
-use refusals::Check;
 use weights::{ENTRY_WORDS, ONES, WEIGHT_WORDS, Weight};
 
 // Value k of a record, at an offset; 0 where the language has no such component.
@@ -29,6 +28,7 @@ fn value(file: &[u8], count: u32, k: u32, at: u32) -> u32
 }
 
 // The weight of the record at an offset.
+#[tactic(auto, using(crate::proofs::Values::four_words_lem))]
 fn record_weight(file: &[u8], h: Head, at: u32) -> Weight
     requires { RecordOffset at × (h.language.count ≤ places) }
     ensures { words (weight_of result) ≡ words (record_weight file.now h at) }
@@ -56,6 +56,7 @@ fn outside(file: &[u8], h: Head, at: u32) -> u32
 }
 
 // Writes the words of an arc, or of an attachment with its t, from a place on.
+#[tactic(auto, using(crate::proofs::Storing::put_last))]
 fn put(list: Listing, w: Weight, t: u32, at: usize, r: &mut [u32])
     requires { at + words_each list ≤ length r.old }
     ensures { r.new ≡ sets r.old at (with_outside list (words (weight_of w)) t) }
@@ -98,12 +99,12 @@ fn size_of(h: Head, list: Listing) -> usize
 }
 
 // Writes the record at an offset of the file.
+#[tactic(auto, using(crate::proofs::Storing::room))]
 fn store(file: &[u8], h: Head, list: Listing, at: u32, r: &mut [u32])
     requires { SmallHead h × RecordOffset at × InRange h (ends_at file.now list at) × (size_of h list ≤ length r.old) }
     ensures { r.new ≡ sets r.old (place_of h (ends_at file.now list at)) (record_words file.now h list at) }
 {
-    let e = ends_at(file, list, at);
-    let place = place_of(h, e);
+    let place = place_of(h, ends_at(file, list, at));
     let w = record_weight(file, h, at);
     let t = outside(file, h, at);
     put(list, w, t, place, r);
@@ -130,8 +131,9 @@ fn fill(file: &[u8], h: Head, list: Listing, first: u32, count: u32, r: &mut [u3
 }
 
 // Writes both lists of a file whose body has no fault.
+#[tactic(auto, using(records::proofs::Listed::body_listed, crate::proofs::Sizes::size_arcs, crate::proofs::Sizes::size_attachments))]
 pub fn write(file: &[u8], h: Head, next: u32, arcs: &mut [u32], mapping: &mut [u32])
-    requires { SmallHead h × (next ≤ 23) × (body_check file.now h next ≡ Check.Passed) × (1024 ≤ length arcs.old) × (2560 ≤ length mapping.old) }
+    requires { SmallHead h × (next ≤ 23) × (body_check file.now h next ≡ Ok tt) × (1024 ≤ length arcs.old) × (2560 ≤ length mapping.old) }
     ensures arcs_after { arcs.new ≡ list_over file.now h Listing.Arcs next arcs.old }
     ensures mapping_after { mapping.new ≡ list_over file.now h Listing.Attachments (list_end file.now h Listing.Arcs next) mapping.old }
 {

@@ -12,11 +12,13 @@ use Rattle.weights.specs.declared.Component.{Component}
 use Rattle.weights.specs.declared.Language.{Language}
 use Rattle.weights.specs.Sizes.{product_tags}
 use Rattle.fields.specs.declared.Found.{Found}
-use Rattle.fields.specs.declared.LanguageRead.{LanguageRead}
-use Rattle.fields.specs.declared.LanguageRead.TheVariants.{Taken, Refused}
 use Rattle.file_bytes.specs.Bytes.{two_at}
 use Rattle.fields.specs.Nested.{added, with_component, with_tag, dist_tag, width_tag, class_tag, gain_tag, product_tag, component_read, after, language_from, language_at}
 use Rattle.fields.specs.Parts.{Onward, Advances}
+use Rattle.std.specs.Prelude.{Result, Ok, Err}
+use Rattle.fields.specs.declared.Taken.{Taken}
+use Rattle.refusals.specs.declared.Refusal.{Refusal}
+use Rattle.fields.specs.Nested.{taken}
 
 by_language : (P : Language → Type 0) (b : Bool) {x y : Language} → P x → P y → P (cond b x y)
 by_language P true hx hy = hx
@@ -31,41 +33,41 @@ added_count l c =
     (by_language (λ (q : Language). q.count ≡ l.count + 1) (eqb l.count 2) refl refl))
 
 -- a case is taken apart by its test
-pub by_test : (P : LanguageRead → Type 0) (b : Bool) {x y : LanguageRead} → (b ≡ true → P x) → (b ≡ false → P y) → P (cond b x y)
+pub by_test : (P : Result Taken Refusal → Type 0) (b : Bool) {x y : Result Taken Refusal} → (b ≡ true → P x) → (b ≡ false → P y) → P (cond b x y)
 by_test P true hx hy = hx refl
 by_test P false hx hy = hy refl
 
 module _ (s : List ℕ) (at : ℕ) (f : Found) (low : f.tags ≤ product_tags) where
-  taken : (k : ℕ) (c : Component) → 0 < k → k ≤ 3 → at + k ≤ length s → Advances s at f (Taken (at + k) (with_component f c))
-  taken k c h t e =
+  one_taken : (k : ℕ) (c : Component) → 0 < k → k ≤ 3 → at + k ≤ length s → Advances s at f (taken (at + k) (with_component f c))
+  one_taken k c h t e =
       let n = added_count f.language c in
       record { onward = omega arith; inside = e; grown = omega arith; few = low; counted = omega (arith, n); near = omega (arith, n) }
 
   pub component_advances : at < length s → Advances s at f (component_read s at f)
   unfolding component_read
   component_advances h =
-      by_test (Advances s at f) (eqb (get_or s at 0) dist_tag) (λ e. taken 1 _ (omega arith) (omega arith) (omega arith)) (λ e.
-      by_test (Advances s at f) (eqb (get_or s at 0) gain_tag) (λ e. taken 1 _ (omega arith) (omega arith) (omega arith)) (λ e.
+      by_test (Advances s at f) (eqb (get_or s at 0) dist_tag) (λ e. one_taken 1 _ (omega arith) (omega arith) (omega arith)) (λ e.
+      by_test (Advances s at f) (eqb (get_or s at 0) gain_tag) (λ e. one_taken 1 _ (omega arith) (omega arith) (omega arith)) (λ e.
       by_test (Advances s at f) (eqb (get_or s at 0) width_tag) (λ e.
       by_test (Advances s at f) (leb (length s) (at + 2)) (λ e. tt) (λ g.
       by_test (Advances s at f) (eqb (two_at s (at + 1)) 0) (λ e. tt)
-      (λ e. taken 3 _ (omega arith) (omega arith) (omega (arith, leb-false (length s) (at + 2) g)))))
+      (λ e. one_taken 3 _ (omega arith) (omega arith) (omega (arith, leb-false (length s) (at + 2) g)))))
       (λ e.
       by_test (Advances s at f) (eqb (get_or s at 0) class_tag) (λ e.
-      by_test (Advances s at f) (leb (length s) (at + 2)) (λ e. tt) (λ g. taken 3 _ (omega arith) (omega arith) (omega (arith, leb-false (length s) (at + 2) g))))
+      by_test (Advances s at f) (leb (length s) (at + 2)) (λ e. tt) (λ g. one_taken 3 _ (omega arith) (omega arith) (omega (arith, leb-false (length s) (at + 2) g))))
       (λ e. tt))))
 
 -- one language after another
-pub then_advances : (s : List ℕ) (at : ℕ) (f : Found) (r : LanguageRead) (k : ℕ → Found → LanguageRead)
+pub then_advances : (s : List ℕ) (at : ℕ) (f : Found) (r : Result Taken Refusal) (k : ℕ → Found → Result Taken Refusal)
     → Advances s (at + 1) (with_tag f) r
     → ((n : ℕ) (g : Found) → g.tags ≤ product_tags → Advances s n g (k n g))
     → Advances s at f (after r k)
-then_advances s at f (Refused r) k h g = tt
-then_advances s at f (Taken n q) k h g = two (k n q) (g n q h.few)
+then_advances s at f (Err r) k h g = tt
+then_advances s at f (Ok t) k h g = two (k t.next t.found) (g t.next t.found h.few)
   where
-    two : (r : LanguageRead) → Advances s n q r → Advances s at f r
-    two (Refused r) a = tt
-    two (Taken e z) a = record {
+    two : (r : Result Taken Refusal) → Advances s t.next t.found r → Advances s at f r
+    two (Err r) a = tt
+    two (Ok u) a = record {
       onward = omega (arith, h.onward, a.onward);
       inside = a.inside;
       grown = omega (arith, h.grown, a.grown);
@@ -86,35 +88,35 @@ advances (suc fuel) s at f h =
     (λ n q hq. advances fuel s n q hq)))
     (λ e. component_advances s at f h (omega (arith, leb-false (length s) at l))))
 
-pub otherwise : (b : Bool) (x : LanguageRead) {y z : LanguageRead} → (b ≡ false → y ≡ z) → cond b x y ≡ cond b x z
+pub otherwise : (b : Bool) (x : Result Taken Refusal) {y z : Result Taken Refusal} → (b ≡ false → y ≡ z) → cond b x y ≡ cond b x z
 otherwise true x h = refl
 otherwise false x h = h refl
 
-pub after_same : (r : LanguageRead) {k l : ℕ → Found → LanguageRead} → ((n : ℕ) (g : Found) → r ≡ Taken n g → k n g ≡ l n g) → after r k ≡ after r l
-after_same (Taken n g) h = h n g refl
-after_same (Refused r) h = refl
+pub after_same : (r : Result Taken Refusal) {k l : ℕ → Found → Result Taken Refusal} → ((n : ℕ) (g : Found) → r ≡ taken n g → k n g ≡ l n g) → after r k ≡ after r l
+after_same (Ok t) h = h t.next t.found refl
+after_same (Err r) h = refl
 
 -- where more fuel is left than tags may still come, one more changes nothing
 pub enough : (fuel : ℕ) (s : List ℕ) (at : ℕ) (f : Found) → f.tags ≤ product_tags → product_tags < fuel + f.tags → language_from fuel s at f ≡ language_from (suc fuel) s at f
 unfolding language_from
 enough zero s at f h g = absurd (omega arith)
 enough (suc fuel) s at f h g =
-    otherwise (leb (length s) at) (Refused (Bytes 0 at)) (λ l.
-    ap (λ (r : LanguageRead). cond (eqb (get_or s at 0) product_tag) r (component_read s at f))
-    (otherwise (leb product_tags f.tags) (Refused (BadCount 0 at)) (λ b.
+    otherwise (leb (length s) at) (Err (Bytes 0 at)) (λ l.
+    ap (λ (r : Result Taken Refusal). cond (eqb (get_or s at 0) product_tag) r (component_read s at f))
+    (otherwise (leb product_tags f.tags) (Err (BadCount 0 at)) (λ b.
     let low : f.tags + 1 ≤ product_tags = omega (arith, leb-false product_tags f.tags b) in
     after_same (language_from fuel s (at + 1) (with_tag f)) {k = language_from fuel s} {l = language_from (suc fuel) s} (λ n q e.
     let a : Onward s (at + 1) (with_tag f) n q = rw e at (advances fuel s (at + 1) (with_tag f) low) in
     enough fuel s n q a.few (omega (arith, a.grown)))
-    ∙ ap (λ (r : LanguageRead). after r (language_from (suc fuel) s)) (enough fuel s (at + 1) (with_tag f) low (omega arith)))))
+    ∙ ap (λ (r : Result Taken Refusal). after r (language_from (suc fuel) s)) (enough fuel s (at + 1) (with_tag f) low (omega arith)))))
 
 -- the reading by cases
 module _ (s : List ℕ) (at : ℕ) (f : Found) where
-  pub read_end : length s ≤ at → language_at s at f ≡ Refused (Bytes 0 at)
+  pub read_end : length s ≤ at → language_at s at f ≡ Err (Bytes 0 at)
   unfolding language_from
   read_end h = rw (le-leb _ _ h)
 
-  pub read_fourth : at < length s → get_or s at 0 ≡ product_tag → product_tags ≤ f.tags → language_at s at f ≡ Refused (BadCount 0 at)
+  pub read_fourth : at < length s → get_or s at 0 ≡ product_tag → product_tags ≤ f.tags → language_at s at f ≡ Err (BadCount 0 at)
   unfolding language_from
   read_fourth h e g = rw (lt-leb _ _ h, eq-eqb _ _ e, le-leb _ _ g)
 
@@ -134,4 +136,4 @@ module _ (s : List ℕ) (at : ℕ) (f : Found) where
       ∙ after_same (language_from product_tags s (at + 1) (with_tag f)) {k = language_from product_tags s} {l = language_at s} (λ n q d.
       let a : Onward s (at + 1) (with_tag f) n q = rw d at (advances product_tags s (at + 1) (with_tag f) (omega arith)) in
       enough product_tags s n q a.few (omega (arith, a.grown)))
-      ∙ ap (λ (r : LanguageRead). after r (language_at s)) (enough product_tags s (at + 1) (with_tag f) (omega arith) (omega arith))
+      ∙ ap (λ (r : Result Taken Refusal). after r (language_at s)) (enough product_tags s (at + 1) (with_tag f) (omega arith) (omega arith))

@@ -11,8 +11,6 @@ use Rattle.refusals.specs.declared.Refusal.TheVariants.{Bytes, BadCount}
 use Rattle.refusals.specs.Cases.{Case, check_of}
 use Rattle.weights.specs.Sizes.{product_tags}
 use Rattle.fields.specs.declared.Found.{Found}
-use Rattle.fields.specs.declared.LanguageRead.{LanguageRead}
-use Rattle.fields.specs.declared.LanguageRead.TheVariants.{Taken, Refused}
 use Rattle.file_bytes.specs.Bytes.{two_at}
 use Rattle.fields.specs.Nested.{nothing, with_tag, dist_tag, width_tag, class_tag, gain_tag, product_tag, component_read, after, language_at}
 use Rattle.fields.specs.Parts.{Advances}
@@ -20,12 +18,14 @@ use Rattle.fields.specs.Cases.{byte_at, tag_cases, after_component, nested_cases
 use Rattle.fields.proofs.Cases.{positive}
 use Rattle.fields.proofs.Advancing.{by_test, advances, read_end, read_fourth, read_component, read_product}
 use Rattle.refusals.specs.Checks.{Check}
-use Rattle.std.specs.Prelude.{Ok, Err}
+use Rattle.std.specs.Prelude.{Result, Ok, Err}
+use Rattle.fields.specs.declared.Taken.{Taken}
+use Rattle.refusals.specs.declared.Refusal.{Refusal}
 
 -- the refusal of a language, or the check of what follows it
-abbrev pub once_read : LanguageRead → (ℕ → Found → Check) → Check
-once_read (Taken next f) k = k next f
-once_read (Refused r) k = Err r
+abbrev pub once_read : Result Taken Refusal → (ℕ → Found → Check) → Check
+once_read (Ok t) k = k t.next t.found
+once_read (Err r) k = Err r
 
 -- a tag that is none of the five
 unknown : (t : ℕ) → (t ≡ 1 → ⊥) → (t ≡ 4 → ⊥) → (t ≡ 2 → ⊥) → (t ≡ 3 → ⊥) → (t ≡ 5 → ⊥) → (leb 1 t && leb t 5) ≡ false
@@ -54,7 +54,7 @@ module _ (s : List ℕ) (at left : ℕ) (f : Found) where
       by_test P (leb (length s) (at + 2)) (λ l. rw (there, is class_tag e, cut l)) (λ l. rw (there, is class_tag e, room l) (same (at + 3) _ refl)))
       (λ d. rw (there, unknown (byte_at s at) (not_is dist_tag a) (not_is gain_tag b) (not_is width_tag c) (not_is class_tag d) other)))))
     where
-      P : LanguageRead → Type 0
+      P : Result Taken Refusal → Type 0
       P r = check_of (tag_cases s at left ++ cs (after_component s at)) ≡ once_read r k
 
       is : (tag : ℕ) → eqb (byte_at s at) tag ≡ true → byte_at s at ≡ tag
@@ -104,16 +104,16 @@ module _ (s : List ℕ) where
   tagged : (fuel : ℕ) → Walks fuel → (at : ℕ) (f : Found) (left wanted : ℕ) → left < suc fuel → f.tags + left ≡ product_tags → at < length s → byte_at s at ≡ product_tag
       → check_of (nested_cases s at left (suc wanted)) ≡ once_read (language_at s at f) (rest wanted)
   tagged fuel walks at f zero wanted l q h e =
-      at_fourth at wanted h e ∙ sym (ap (λ (r : LanguageRead). once_read r (rest wanted)) (read_fourth s at f h e (omega arith)))
+      at_fourth at wanted h e ∙ sym (ap (λ (r : Result Taken Refusal). once_read r (rest wanted)) (read_fourth s at f h e (omega arith)))
   tagged fuel walks at f (suc left) wanted l q h e =
       at_product at left wanted h e
       ∙ walks (at + 1) (with_tag f) left (suc wanted) (omega arith) (omega arith)
       ∙ second (language_at s (at + 1) (with_tag f)) (advances (suc product_tags) s (at + 1) (with_tag f) (omega arith))
-      ∙ sym (ap (λ (r : LanguageRead). once_read r (rest wanted)) (read_product s at f h e (omega arith)))
+      ∙ sym (ap (λ (r : Result Taken Refusal). once_read r (rest wanted)) (read_product s at f h e (omega arith)))
     where
-      second : (r : LanguageRead) → Advances s (at + 1) (with_tag f) r → once_read r (rest (suc wanted)) ≡ once_read (after r (language_at s)) (rest wanted)
-      second (Refused x) a = refl
-      second (Taken n g) a = walks n g (product_tags - g.tags) wanted (omega (arith, a.grown, a.few)) (omega (arith, a.few))
+      second : (r : Result Taken Refusal) → Advances s (at + 1) (with_tag f) r → once_read r (rest (suc wanted)) ≡ once_read (after r (language_at s)) (rest wanted)
+      second (Err x) a = refl
+      second (Ok t) a = walks t.next t.found (product_tags - t.found.tags) wanted (omega (arith, a.grown, a.few)) (omega (arith, a.few))
 
   walk : (fuel : ℕ) → Walks fuel
   walk zero at f left wanted l q = absurd (omega arith)
@@ -125,14 +125,14 @@ module _ (s : List ℕ) where
       go : (a b : Bool) → leb (length s) at ≡ a → eqb (byte_at s at) product_tag ≡ b → Walks fuel → check_of (nested_cases s at left (suc wanted)) ≡ once_read (language_at s at f) (rest wanted)
       go true b c d walks =
           let h = leb-true (length s) at c in
-          at_end at left wanted h ∙ sym (ap (λ (r : LanguageRead). once_read r (rest wanted)) (read_end s at f h))
+          at_end at left wanted h ∙ sym (ap (λ (r : Result Taken Refusal). once_read r (rest wanted)) (read_end s at f h))
       go false true c d walks = tagged fuel walks at f left wanted l q (leb-false (length s) at c) (eqb-true (byte_at s at) product_tag d)
       go false false c d walks =
           let h = leb-false (length s) at c in
           let other = eqb-false (byte_at s at) product_tag d in
           at_component at left wanted other
           ∙ component_check s at left f (λ n. nested_cases s n left wanted) (rest wanted) (λ n g e. ap (λ (k : ℕ). check_of (nested_cases s n k wanted)) (left_is g e)) h other
-          ∙ sym (ap (λ (r : LanguageRead). once_read r (rest wanted)) (read_component s at f h other))
+          ∙ sym (ap (λ (r : Result Taken Refusal). once_read r (rest wanted)) (read_component s at f h other))
 
 -- none is wanted
 ended : (s : List ℕ) (next left : ℕ) → check_of (nested_cases s next left 0) ≡ Ok tt
@@ -144,6 +144,6 @@ ended s next (suc left) = refl
 pub language_check_lem : (s : List ℕ) → check_of (nested_cases s 8 product_tags 1) ≡ once_read (language_at s 8 nothing) (λ next f. (Ok tt))
 language_check_lem s = walk s (suc product_tags) 8 nothing product_tags 0 (omega arith) refl ∙ last (language_at s 8 nothing)
   where
-    last : (r : LanguageRead) → once_read r (rest s 0) ≡ once_read r (λ next f. (Ok tt))
-    last (Taken next f) = ended s next (product_tags - f.tags)
-    last (Refused x) = refl
+    last : (r : Result Taken Refusal) → once_read r (rest s 0) ≡ once_read r (λ next f. (Ok tt))
+    last (Ok t) = ended s t.next (product_tags - t.found.tags)
+    last (Err x) = refl

@@ -1,15 +1,14 @@
 -- The header of a problem file, field by field, and the first refusal where it is wrong (01, "File" and "Refusal numbers").
 -- To be believed: all of it, but that its refusals are those of the file's words, which is proved (proofs/Cases).
-use Rattle.std.specs.Prelude.{ℕ, cond, ◌&&◌, List, ltb, leb, eqb, length, get_or, Ok, Err}
+use Rattle.std.specs.Prelude.{ℕ, cond, ◌&&◌, List, ltb, leb, eqb, length, get_or, Result, Ok, Err}
 use Rattle.refusals.specs.declared.Refusal.{Refusal}
 use Rattle.refusals.specs.declared.Refusal.TheVariants.{Bytes, Version, Size}
 use Rattle.refusals.specs.Checks.{unless, Check}
 use Rattle.std.specs.Result.{result_and}
-use Rattle.fields.specs.declared.LanguageRead.{LanguageRead}
-use Rattle.fields.specs.declared.LanguageRead.TheVariants.{Taken, Refused as NotTaken}
-use Rattle.fields.specs.declared.HeadRead.{HeadRead}
-use Rattle.fields.specs.declared.HeadRead.TheVariants.{Sound, Refused as Faulty}
 use Rattle.fields.specs.Nested.{nothing, language_at}
+use Rattle.fields.specs.declared.Taken.{Taken}
+use Rattle.fields.specs.declared.Head.{Head}
+use Rattle.fields.specs.declared.SoundHead.{SoundHead}
 
 -- ---- the header: version at 4, n at 5, m at 6, mode at 7, the language at 8
 
@@ -26,12 +25,16 @@ unfoldable pub fields_check : List ℕ → Check
 fields_check s =
     result_and (field_check s 4 (Version 0 4) 1 1) (result_and (field_check s 5 (Size 0 5) 1 16) (result_and (field_check s 6 (Size 0 6) 0 32) (mode_field_check s)))
 
+-- a sound head, and the offset of the arcs
+abbrev pub sound_head : ℕ → Head → Result SoundHead Refusal
+sound_head next h = Ok (record { next = next; head = h })
+
 -- the first refusal of the fields and the language; else the head, and the offset after the language
-abbrev pub head_from : Check → List ℕ → LanguageRead → HeadRead
-head_from (Err r) s l = Faulty r
-head_from (Ok _) s (NotTaken r) = Faulty r
-head_from (Ok _) s (Taken next f) = Sound next (record { n = get_or s 5 0; m = get_or s 6 0; mode = get_or s 7 0; language = f.language })
+abbrev pub head_from : Check → List ℕ → Result Taken Refusal → Result SoundHead Refusal
+head_from (Err r) s l = Err r
+head_from (Ok _) s (Err r) = Err r
+head_from (Ok _) s (Ok t) = sound_head t.next (record { n = get_or s 5 0; m = get_or s 6 0; mode = get_or s 7 0; language = t.found.language })
 
 -- Version to language: the head and the offset of the arcs, or the first refusal.
-unfoldable pub head_read : List ℕ → HeadRead
+unfoldable pub head_read : List ℕ → Result SoundHead Refusal
 head_read s = head_from (fields_check s) s (language_at s 8 nothing)

@@ -1,15 +1,15 @@
 -- A language in a file: one component, or two languages under a product, nested (01, "File").
 -- To be believed: all of it. That the fuel of `language_from` never ends, and that more changes nothing, are theorems (proofs/Fuel).
-use Rattle.std.specs.Prelude.{ℕ, zero, suc, ◌+◌, cond, List, leb, eqb, length, get_or}
+use Rattle.std.specs.Prelude.{ℕ, zero, suc, ◌+◌, cond, List, leb, eqb, length, get_or, Result, Ok, Err}
 use Rattle.refusals.specs.declared.Refusal.TheVariants.{Bytes, BadComponent, BadCount}
 use Rattle.weights.specs.declared.Component.{Component}
 use Rattle.weights.specs.declared.Component.TheVariants.{Dist, Width, Class, Gain}
 use Rattle.weights.specs.declared.Language.{Language}
 use Rattle.weights.specs.Sizes.{product_tags}
 use Rattle.fields.specs.declared.Found.{Found}
-use Rattle.fields.specs.declared.LanguageRead.{LanguageRead}
-use Rattle.fields.specs.declared.LanguageRead.TheVariants.{Taken, Refused}
 use Rattle.file_bytes.specs.Bytes.{two_at}
+use Rattle.fields.specs.declared.Taken.{Taken}
+use Rattle.refusals.specs.declared.Refusal.{Refusal}
 
 -- ---- the tags
 
@@ -65,39 +65,43 @@ with_tag f = record { tags = f.tags + 1; language = f.language }
 
 -- ---- reading
 
+-- a language that was taken, and the offset after it
+abbrev pub taken : ℕ → Found → Result Taken Refusal
+taken next f = Ok (record { next = next; found = f })
+
 -- a width, by its tag's offset: its limit is there, and is not 0
-abbrev pub width_read : List ℕ → ℕ → Found → LanguageRead
+abbrev pub width_read : List ℕ → ℕ → Found → Result Taken Refusal
 width_read s at f =
-    cond (leb (length s) (at + 2)) (Refused (Bytes 0 (at + 1)))
-    (cond (eqb (two_at s (at + 1)) 0) (Refused (BadComponent 0 (at + 1))) (Taken (at + 3) (with_component f (Width (two_at s (at + 1))))))
+    cond (leb (length s) (at + 2)) (Err (Bytes 0 (at + 1)))
+    (cond (eqb (two_at s (at + 1)) 0) (Err (BadComponent 0 (at + 1))) (taken (at + 3) (with_component f (Width (two_at s (at + 1))))))
 
 -- a class, by its tag's offset: its limit is there
-abbrev pub class_read : List ℕ → ℕ → Found → LanguageRead
-class_read s at f = cond (leb (length s) (at + 2)) (Refused (Bytes 0 (at + 1))) (Taken (at + 3) (with_component f (Class (two_at s (at + 1)))))
+abbrev pub class_read : List ℕ → ℕ → Found → Result Taken Refusal
+class_read s at f = cond (leb (length s) (at + 2)) (Err (Bytes 0 (at + 1))) (taken (at + 3) (with_component f (Class (two_at s (at + 1)))))
 
 -- one component: its tag, and a limit of two bytes for width and class
-unfoldable pub component_read : List ℕ → ℕ → Found → LanguageRead
+unfoldable pub component_read : List ℕ → ℕ → Found → Result Taken Refusal
 component_read s at f =
-    cond (eqb (get_or s at 0) dist_tag) (Taken (at + 1) (with_component f Dist))
-    (cond (eqb (get_or s at 0) gain_tag) (Taken (at + 1) (with_component f Gain))
+    cond (eqb (get_or s at 0) dist_tag) (taken (at + 1) (with_component f Dist))
+    (cond (eqb (get_or s at 0) gain_tag) (taken (at + 1) (with_component f Gain))
     (cond (eqb (get_or s at 0) width_tag) (width_read s at f)
     (cond (eqb (get_or s at 0) class_tag) (class_read s at f)
-    (Refused (BadComponent 0 at)))))
+    (Err (BadComponent 0 at)))))
 
 -- what follows a language that was taken
-abbrev pub after : LanguageRead → (ℕ → Found → LanguageRead) → LanguageRead
-after (Taken next f) k = k next f
-after (Refused r) k = Refused r
+abbrev pub after : Result Taken Refusal → (ℕ → Found → Result Taken Refusal) → Result Taken Refusal
+after (Ok t) k = k t.next t.found
+after (Err r) k = Err r
 
 -- one language; the fuel bounds how deep products nest
-unfoldable pub language_from : ℕ → List ℕ → ℕ → Found → LanguageRead
-language_from zero s at f = Refused (BadCount 0 at)
+unfoldable pub language_from : ℕ → List ℕ → ℕ → Found → Result Taken Refusal
+language_from zero s at f = Err (BadCount 0 at)
 language_from (suc fuel) s at f =
-    cond (leb (length s) at) (Refused (Bytes 0 at))
+    cond (leb (length s) at) (Err (Bytes 0 at))
     (cond (eqb (get_or s at 0) product_tag)
-    (cond (leb product_tags f.tags) (Refused (BadCount 0 at)) (after (language_from fuel s (at + 1) (with_tag f)) (language_from fuel s)))
+    (cond (leb product_tags f.tags) (Err (BadCount 0 at)) (after (language_from fuel s (at + 1) (with_tag f)) (language_from fuel s)))
     (component_read s at f))
 
 -- one language, after what has been found before it
-abbrev pub language_at : List ℕ → ℕ → Found → LanguageRead
+abbrev pub language_at : List ℕ → ℕ → Found → Result Taken Refusal
 language_at = language_from (suc product_tags)

@@ -1,13 +1,12 @@
 -- What the inner functions say and rely on, on the way to Nested and Header: how far a reading has come, and how large the numbers
 -- of a head are. They join the code to those; nothing here has to be believed.
-use Rattle.std.specs.Prelude.{ℕ, ◌+◌, ◌*◌, ◌≤◌, ◌<◌, ◌≡◌, List, length}
+use Rattle.std.specs.Prelude.{ℕ, ◌+◌, ◌*◌, ◌≤◌, ◌<◌, ◌≡◌, List, length, Result, Ok, Err}
 use Rattle.weights.specs.Sizes.{places, product_tags}
 use Rattle.fields.specs.declared.Found.{Found}
-use Rattle.fields.specs.declared.LanguageRead.{LanguageRead}
-use Rattle.fields.specs.declared.LanguageRead.TheVariants.{Taken, Refused}
 use Rattle.fields.specs.declared.Head.{Head}
-use Rattle.fields.specs.declared.HeadRead.{HeadRead}
-use Rattle.fields.specs.declared.HeadRead.TheVariants.{Sound, Refused as Faulty}
+use Rattle.fields.specs.declared.Taken.{Taken}
+use Rattle.fields.specs.declared.SoundHead.{SoundHead}
+use Rattle.refusals.specs.declared.Refusal.{Refusal}
 
 -- ---- the language
 
@@ -27,9 +26,9 @@ pub record Onward (s : List ℕ) (at : ℕ) (f : Found) (next : ℕ) (g : Found)
   pub near : next + f.tags + f.language.count * 3 ≤ at + g.tags + g.language.count * 3
 
 -- a reading that takes a language advances
-abbrev pub Advances : List ℕ → ℕ → Found → LanguageRead → Type 0
-Advances s at f (Taken next g) = Onward s at f next g
-Advances s at f (Refused r) = Unit {0}
+abbrev pub Advances : List ℕ → ℕ → Found → Result Taken Refusal → Type 0
+Advances s at f (Ok t) = Onward s at f t.next t.found
+Advances s at f (Err r) = Unit {0}
 
 -- ---- the head
 
@@ -40,6 +39,6 @@ pub record SmallHead (h : Head) : Type 0 where
   pub components : h.language.count ≤ places
 
 -- the arcs begin within the file, at most 23 bytes from its start
-abbrev pub SmallHeadRead : List ℕ → HeadRead → Type 0
-SmallHeadRead s (Sound next h) = SmallHead h × (next ≤ length s) × (next ≤ 23)
-SmallHeadRead s (Faulty r) = Unit {0}
+abbrev pub SmallHeadRead : List ℕ → Result SoundHead Refusal → Type 0
+SmallHeadRead s (Ok t) = SmallHead t.head × (t.next ≤ length s) × (t.next ≤ 23)
+SmallHeadRead s (Err r) = Unit {0}

@@ -5,53 +5,50 @@ ghost use Rattle.fields.specs.Header.{field_check, mode_field_check, fields_chec
 ghost use Rattle.fields.specs.Parts.{SmallHeadRead};
 
 use super::languages::language;
-use super::{Found, Head, HeadRead, LanguageRead};
+use super::{Found, Head, SoundHead};
 use file_bytes::byte;
-use refusals::checks::or_else;
-use refusals::{Check, Refusal};
+use refusals::Refusal;
 use weights::{Component, Language};
 
 // A field of one byte: it is there, and lies in lo..hi.
-fn field_check(file: &[u8], at: u32, r: Refusal, lo: u8, hi: u8) -> Check
+#[tactic(auto, unfolding(crate::specs::Header::field_check))]
+fn field_check(file: &[u8], at: u32, r: Refusal, lo: u8, hi: u8) -> Result<(), Refusal>
     ensures { result ≡ field_check file.now at r lo hi }
 {
     let i = at as usize;
     if file.len() <= i {
-        return Check::Refused(Refusal::Bytes {
+        return Err(Refusal::Bytes {
             which: 0,
             place: at,
         });
     }
-    let v = file[i];
-    if v < lo {
-        return Check::Refused(r);
+    if file[i] < lo || hi < file[i] {
+        return Err(r);
     }
-    if hi < v {
-        return Check::Refused(r);
-    }
-    Check::Passed
+    Ok(())
 }
 
 // The mode, which is 0 exactly when m is 0.
-fn mode_field_check(file: &[u8]) -> Check
+fn mode_field_check(file: &[u8]) -> Result<(), Refusal>
     ensures { result ≡ mode_field_check file.now }
 {
     let wrong = Refusal::Size { which: 0, place: 7 };
     if byte(file, 6) == 0 {
-        return field_check(file, 7, wrong, 0, 0);
+        field_check(file, 7, wrong, 0, 0)
+    } else {
+        field_check(file, 7, wrong, 1, 3)
     }
-    field_check(file, 7, wrong, 1, 3)
 }
 
 // Version, n, m and mode, each where those before it pass.
-fn fields_check(file: &[u8]) -> Check
+#[tactic(auto, unfolding(crate::specs::Header::fields_check))]
+fn fields_check(file: &[u8]) -> Result<(), Refusal>
     ensures { result ≡ fields_check file.now }
 {
-    let version = field_check(file, 4, Refusal::Version { which: 0, place: 4 }, 1, 1);
-    let n = field_check(file, 5, Refusal::Size { which: 0, place: 5 }, 1, 16);
-    let m = field_check(file, 6, Refusal::Size { which: 0, place: 6 }, 0, 32);
-    let mode = mode_field_check(file);
-    or_else(version, or_else(n, or_else(m, mode)))
+    field_check(file, 4, Refusal::Version { which: 0, place: 4 }, 1, 1)?;
+    field_check(file, 5, Refusal::Size { which: 0, place: 5 }, 1, 16)?;
+    field_check(file, 6, Refusal::Size { which: 0, place: 6 }, 0, 32)?;
+    mode_field_check(file)
 }
 
 // Nothing of a language has been read.
@@ -69,35 +66,21 @@ fn nothing() -> Found
 }
 
 // Version, n, m, mode and the language; not the count of bytes before them.
-pub fn header(file: &[u8]) -> HeadRead
+#[tactic(auto, using(crate::proofs::Passing::fields_small), unfolding(crate::specs::Header::head_read))]
+pub fn header(file: &[u8]) -> Result<SoundHead, Refusal>
     ensures value { result ≡ head_read file.now }
     ensures small_head_read { SmallHeadRead file.now result }
 {
-    let n = byte(file, 5) as usize;
-    let m = byte(file, 6) as usize;
-    let mode = byte(file, 7);
-    let read = language(file, 8, nothing());
-    let checked = fields_check(file);
-    match checked {
-        Check::Refused(r) => {
-            return HeadRead::Refused(r);
-        }
-        Check::Passed => match read {
-            LanguageRead::Refused(r) => {
-                return HeadRead::Refused(r);
-            }
-            LanguageRead::Taken { next, found } => {
-                let language = found.language;
-                return HeadRead::Sound {
-                    next,
-                    head: Head {
-                        n,
-                        m,
-                        mode,
-                        language,
-                    },
-                };
-            }
-        },
-    }
+    fields_check(file)?;
+    let read = language(file, 8, nothing())?;
+    let head = Head {
+        n: byte(file, 5) as usize,
+        m: byte(file, 6) as usize,
+        mode: byte(file, 7),
+        language: read.found.language,
+    };
+    Ok(SoundHead {
+        next: read.next,
+        head,
+    })
 }

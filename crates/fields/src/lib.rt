@@ -4,7 +4,6 @@
 pub mod header;
 pub mod languages;
 
-use refusals::Refusal;
 use weights::Language;
 
 // What has been read of a language: its product tags and its components so far.
@@ -14,11 +13,11 @@ pub struct Found {
     pub language: Language,
 }
 
-// A language that was taken, with the offset after it; or the first refusal.
+// A language that was taken, with the offset after it.
 #[derive(Clone, Copy)]
-pub enum LanguageRead {
-    Taken { next: u32, found: Found },
-    Refused(Refusal),
+pub struct Taken {
+    pub next: u32,
+    pub found: Found,
 }
 
 // What stands before the two lists.
@@ -30,9 +29,9 @@ pub struct Head {
     pub language: Language,
 }
 
-// A sound head, with the offset of the arcs; or the first refusal.
+// A sound head, with the offset of the arcs.
 #[derive(Clone, Copy)]
-pub enum HeadRead {
-    Sound { next: u32, head: Head },
-    Refused(Refusal),
+pub struct SoundHead {
+    pub next: u32,
+    pub head: Head,
 }

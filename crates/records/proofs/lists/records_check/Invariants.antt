@@ -5,6 +5,3 @@ use Rattle.records.proofs.lists.records_check.Given as goal
 
 abbrev pub invariant-loop-e : goal.invariant-loop-e
 invariant-loop-e l = (l.e ≤ l.count) × (l.at ≤ l.first + l.e * 12) × (records_check l.file l.h l.list l.first 0 l.count ≡ records_check l.file l.h l.list l.at l.low (l.count - l.e))
-
-abbrev pub decreases-loop-e : goal.decreases-loop-e
-decreases-loop-e l = l.count - l.e
