@@ -20,9 +20,9 @@ fn take_entry(p: Places, w: Weight, x: Weight, entries: &[u32], at: usize) -> We
     requires { (at + weight_words ≤ length entries.now) × AtMost arc_sum (weight_of x) × AtMost 2147483647 (cell places entries.now at) }
     ensures { weight_of result ≡ better_of (places_of p) (weight_of w) (join (places_of p) (weight_of x) (cell places entries.now at)) }
 {
-    let Weight::Route { .. } = x else {
+    if matches!(x, Weight::NoRoute) {
         return w;
-    };
+    }
     let y = words::weight_at(entries, at);
     if weights::gaining::loses(p, w, x, y) {
         return w;
@@ -67,9 +67,7 @@ fn pass(p: Places, n: usize, a: &[u32], j: usize, entries: &mut [u32]) -> bool
     let mut changed = false;
     for i in 0..n {
         let w = renew(p, n, a, i, j, entries);
-        if put(entries, i * WEIGHT_WORDS, w) {
-            changed = true;
-        }
+        changed |= put(entries, i * WEIGHT_WORDS, w);
     }
     changed
 }
