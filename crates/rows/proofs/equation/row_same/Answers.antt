@@ -7,5 +7,4 @@ use Rattle.rows.proofs.equation.row_same.Goals as goal
 
 pub returns : goal.returns
 unfolding cell
-returns c = let a = c.args in let t = same_at (row_in places a.row.now) (matrix_in places a.n a.r.now a.i) in
-    all_every t a.n _ _ _ c.all.ensures.ran (λ x b q k. search rules)
+returns c = all_every (same_at (row_in places c.args.row.now) (matrix_in places c.args.n c.args.r.now c.args.i)) c.args.n _ _ _ c.all.ensures.ran (λ x b q k. search rules)

@@ -7,5 +7,6 @@ use Rattle.matrices.proofs.Every.{all_every}
 use Rattle.rows.proofs.equation.solves.Goals as goal
 
 pub returns : goal.returns
-returns c = let a = c.args in let t = row_solves (places_of a.p) a.n (matrix_in places a.n a.a.now) (matrix_in places a.n a.r.now) in
-    all_every t a.n _ _ _ c.all.ensures.ran (λ x b q k. search rules)
+returns c =
+    all_every (row_solves (places_of c.args.p) c.args.n (matrix_in places c.args.n c.args.a.now) (matrix_in places c.args.n c.args.r.now)) c.args.n _ _ _ c.all.ensures.ran
+    (λ x b q k. search rules)

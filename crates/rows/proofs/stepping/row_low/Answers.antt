@@ -6,5 +6,4 @@ use Rattle.rows.proofs.stepping.row_low.Goals as goal
 
 pub returns : goal.returns
 unfolding cell
-returns c = let a = c.args in let t = low_at a.row.now in
-    all_every t a.n _ _ _ c.all.ensures.ran (λ x b q k. search rules)
+returns c = all_every (low_at c.args.row.now) c.args.n _ _ _ c.all.ensures.ran (λ x b q k. search rules)
