@@ -84,6 +84,7 @@ fn relax_at(p: Places, single: bool, x: Weight, y: Weight, row: &mut [u32], at: 
 }
 
 // Each entry j of the row becomes the better of itself and x joined R(k,j).
+#[tactic(auto, unfolding(matrices::specs::Buffers::cell))]
 fn fold_arc(p: Places, single: bool, x: Weight, r: &[u32], n: usize, k: usize, row: &mut [u32])
     requires square { Square n r.now × (k < n) × (n * weight_words ≤ length row.old) × AtMost arc_sum (weight_of x) }
     requires by_index { (j : ℕ) → j < n → AtMost matrix_sum (matrix_in places n r.now k j) }
@@ -98,6 +99,7 @@ fn fold_arc(p: Places, single: bool, x: Weight, r: &[u32], n: usize, k: usize, r
 }
 
 // The arc from i to k, joined row k of R, taken into the row; an arc that is no route is left out before R is read.
+#[tactic(auto, unfolding(matrices::specs::Buffers::cell))]
 pub fn take_arc(
     p: Places,
     single: bool,

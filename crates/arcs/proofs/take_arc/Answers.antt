@@ -29,7 +29,3 @@ fold_arc-requires c = let g = c.requires.0 in
           (formed_valid arc_sum c.args.p c.args.n c.args.a.now g.arcs c.args.i c.args.k c.requires.1 c.requires.2)
           (formed_valid matrix_sum c.args.p c.args.n c.args.r.now g.routes c.args.k j c.requires.2 hj));
     }
-
-pub returns : goal.returns
-returns c = let e = cell_is c.args.a.now (entry_place c.args.n c.args.i c.args.k) ∙ sym c.weight_at-x.ensures in
-    rw e c.fold_arc.ensures
