@@ -67,6 +67,7 @@ fn pass(p: Places, n: usize, a: &[u32], j: usize, entries: &mut [u32]) -> bool
     let mut changed = false;
     for i in 0..n {
         let w = renew(p, n, a, i, j, entries);
+        // An if: with |= a settle is slower.
         if put(entries, i * WEIGHT_WORDS, w) {
             changed = true;
         }

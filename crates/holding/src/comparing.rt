@@ -16,7 +16,11 @@ fn same_words(s: &[u32], at: usize, entries: &[u32], from: usize) -> bool
     requires { (at + weight_words ≤ length s.now) × (from + weight_words ≤ length entries.now) }
     ensures { result ≡ same_values (words_at s.now at) (words_at entries.now from) }
 {
-    s[at..at + WEIGHT_WORDS] == entries[from..from + WEIGHT_WORDS]
+    // Word by word: with slices compared a handover is slower.
+    s[at] == entries[from]
+        && s[at + 1] == entries[from + 1]
+        && s[at + 2] == entries[from + 2]
+        && s[at + 3] == entries[from + 3]
 }
 
 // Column j of the matrix holds the words of `entries`, one for each row.
