@@ -10,21 +10,19 @@ ghost use Rattle.file_bytes.specs.Offsets.{ByteOffset};
 pub fn byte(file: &[u8], at: u32) -> u32
     ensures { (result ≡ get_or file.now at 0) × (result ≤ 255) }
 {
-    let i = at as usize;
-    if file.len() <= i {
-        return 0;
+    match file.get(at as usize) {
+        Some(byte) => *byte as u32,
+        None => 0,
     }
-    file[i] as u32
 }
 
 // The number in two bytes.
+#[tactic(auto, unfolding(crate::specs::Bytes::two_at))]
 pub fn two(file: &[u8], at: u32) -> u32
     requires { ByteOffset at }
     ensures { (result ≡ two_at file.now at) × (result ≤ 65535) }
 {
-    let high = byte(file, at);
-    let low = byte(file, at + 1);
-    high * 256 + low
+    byte(file, at) * 256 + byte(file, at + 1)
 }
 
 // The file's count of the bytes after it.

@@ -24,7 +24,7 @@ pub struct Witness {
     pub y: PerPlace<u32>,
 }
 
-// A law of a language is held, or broken by s, x and y.
+// A law of a language is held, or broken by s, x and y. An Option would not say which of the two is held.
 #[derive(Clone, Copy)]
 pub enum Law {
     Held,

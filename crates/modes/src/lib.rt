@@ -16,7 +16,7 @@ pub enum Mode {
     Cold,
 }
 
-// A table's entry: a route, with a value in each place, and an outside number t; or empty.
+// A table's entry: a route, with a value in each place, and an outside number t; or empty. An enum of its own, as a weight is.
 #[derive(Clone, Copy, Debug, PartialEq, Eq)]
 pub enum Entry {
     Mapped {

@@ -68,7 +68,8 @@ impl Places {
     }
 }
 
-// A route has a value in each place.
+// A route has a value in each place. An enum of its own, and of plain numbers, as the paper asks: "each weight must show itself to be
+// a route".
 #[derive(Clone, Copy, Debug, PartialEq, Eq)]
 pub enum Weight {
     Route {
@@ -80,6 +81,7 @@ pub enum Weight {
     NoRoute,
 }
 
+// Not an Ordering: of two widths the greater is the better.
 #[derive(Clone, Copy, Debug, PartialEq, Eq)]
 pub enum Comparison {
     Better,
