@@ -87,7 +87,9 @@ fn plain_lines(file: &Path) -> Vec<String> {
     for line in text.lines() {
         let inner = line.trim_start();
         let contract = inner.starts_with("requires ") || inner.starts_with("ensures ");
-        let marked = line.starts_with("#![tactic(") || line.starts_with("#[derive(");
+        let marked = ["#![tactic(", "#[tactic(", "#[derive("]
+            .iter()
+            .any(|mark| line.starts_with(mark));
         if contract || marked || line.starts_with("ghost use ") {
             continue;
         }

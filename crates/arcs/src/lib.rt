@@ -19,28 +19,14 @@ use weights::{Component, ONES, Places, WEIGHT_WORDS, Weight};
 fn is_unused(c: Component) -> bool
     ensures { result ≡ true → c ≡ Class 0 }
 {
-    match c {
-        Component::Dist => false,
-        Component::Width(_) => false,
-        Component::Class(k) => k == 0,
-        Component::Gain => false,
-    }
+    matches!(c, Component::Class(0))
 }
 
 // Every place after the first is unused, or may as well be: its component is class 0.
 pub fn is_single(p: Places) -> bool
     ensures { result ≡ true → Single p }
 {
-    let two = p.second;
-    let three = p.third;
-    let four = p.fourth;
-    if !is_unused(two) {
-        return false;
-    }
-    if !is_unused(three) {
-        return false;
-    }
-    is_unused(four)
+    is_unused(p.second) && is_unused(p.third) && is_unused(p.fourth)
 }
 
 // x joined y in a language of one component.
@@ -48,28 +34,14 @@ fn join_first(p: Places, x: Weight, y: Weight) -> Weight
     requires { AtMost arc_sum (weight_of x) × AtMost matrix_sum (weight_of y) × FirstAlone (places_of p) (weight_of x) (weight_of y) }
     ensures { weight_of result ≡ join (places_of p) (weight_of x) (weight_of y) }
 {
-    let Weight::Route {
-        first: a,
-        second: b,
-        third: c,
-        fourth: d,
-    } = x
-    else {
+    let Weight::Route { first: a, .. } = x else {
         return Weight::NoRoute;
     };
-    let Weight::Route {
-        first: e,
-        second: f,
-        third: g,
-        fourth: h,
-    } = y
-    else {
+    let Weight::Route { first: e, .. } = y else {
         return Weight::NoRoute;
     };
-    let one = p.first;
-    let first = weights::joining::join_value(one, a, e);
     Weight::Route {
-        first,
+        first: weights::joining::join_value(p.first, a, e),
         second: 0,
         third: 0,
         fourth: 0,
@@ -82,9 +54,10 @@ fn join_arc(p: Places, single: bool, x: Weight, y: Weight) -> Weight
     ensures { weight_of result ≡ join (places_of p) (weight_of x) (weight_of y) }
 {
     if single {
-        return join_first(p, x, y);
+        join_first(p, x, y)
+    } else {
+        weights::joining::join(p, x, y)
     }
-    weights::joining::join(p, x, y)
 }
 
 // x joined y is worse than w by its first value; where the language is single that is no shorter than the join, and not asked.
@@ -92,10 +65,7 @@ fn is_lost(p: Places, single: bool, w: Weight, x: Weight, y: Weight) -> bool
     requires { AtMost arc_sum (weight_of x) × AtMost matrix_sum (weight_of y) }
     ensures { result ≡ true → loses (places_of p) (weight_of w) (weight_of x) (weight_of y) ≡ true }
 {
-    if single {
-        return false;
-    }
-    weights::gaining::loses(p, w, x, y)
+    !single && weights::gaining::loses(p, w, x, y)
 }
 
 // The weight at `at` becomes the better of itself and x joined y.
@@ -114,6 +84,7 @@ fn relax_at(p: Places, single: bool, x: Weight, y: Weight, row: &mut [u32], at: 
 }
 
 // Each entry j of the row becomes the better of itself and x joined R(k,j).
+#[tactic(auto, unfolding(matrices::specs::Buffers::cell))]
 fn fold_arc(p: Places, single: bool, x: Weight, r: &[u32], n: usize, k: usize, row: &mut [u32])
     requires square { Square n r.now × (k < n) × (n * weight_words ≤ length row.old) × AtMost arc_sum (weight_of x) }
     requires by_index { (j : ℕ) → j < n → AtMost matrix_sum (matrix_in places n r.now k j) }
@@ -121,15 +92,14 @@ fn fold_arc(p: Places, single: bool, x: Weight, r: &[u32], n: usize, k: usize, r
     ensures { row.new ≡ row_words n (folded (places_of p) (weight_of x) (matrix_in places n r.now k) (row_in places row.old)) ++ drop (n * weight_words) row.old }
 {
     let from = k * (n * WEIGHT_WORDS);
-    let mut j: usize = 0;
-    while j < n {
+    for j in 0..n {
         let y = words::weight_at(r, from + j * WEIGHT_WORDS);
         relax_at(p, single, x, y, row, j * WEIGHT_WORDS);
-        j += 1;
     }
 }
 
 // The arc from i to k, joined row k of R, taken into the row; an arc that is no route is left out before R is read.
+#[tactic(auto, unfolding(matrices::specs::Buffers::cell))]
 pub fn take_arc(
     p: Places,
     single: bool,
@@ -144,8 +114,7 @@ pub fn take_arc(
     ensures { row.new ≡ row_words n (folded (places_of p) (matrix_in places n a.now i k) (matrix_in places n r.now k) (row_in places row.old)) ++ drop (n * weight_words) row.old }
 {
     let at = i * (n * WEIGHT_WORDS) + k * WEIGHT_WORDS;
-    let first = a[at];
-    if first == ONES {
+    if a[at] == ONES {
         return;
     }
     let x = words::weight_at(a, at);

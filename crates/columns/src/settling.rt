@@ -15,25 +15,19 @@ use numbers::Node;
 use weights::{Places, WEIGHT_WORDS, Weight};
 
 // The better of w and of x joined the weight at `at`; an arc that is no route is left out before the column is read.
+#[tactic(auto, unfolding(algebra::specs::Order::pick, matrices::specs::Buffers::cell))]
 fn take_entry(p: Places, w: Weight, x: Weight, entries: &[u32], at: usize) -> Weight
     requires { (at + weight_words ≤ length entries.now) × AtMost arc_sum (weight_of x) × AtMost 2147483647 (cell places entries.now at) }
     ensures { weight_of result ≡ better_of (places_of p) (weight_of w) (join (places_of p) (weight_of x) (cell places entries.now at)) }
 {
-    let Weight::Route {
-        first: _,
-        second: _,
-        third: _,
-        fourth: _,
-    } = x
-    else {
+    if matches!(x, Weight::NoRoute) {
         return w;
-    };
+    }
     let y = words::weight_at(entries, at);
     if weights::gaining::loses(p, w, x, y) {
         return w;
     }
-    let z = weights::joining::join(p, x, y);
-    weights::comparing::better_of(p, w, z)
+    weights::comparing::better_of(p, w, weights::joining::join(p, x, y))
 }
 
 // What a row step puts at row i of the column with target j.
@@ -43,23 +37,21 @@ fn renew(p: Places, n: usize, a: &[u32], i: usize, j: usize, entries: &[u32]) ->
 {
     let from = i * (n * WEIGHT_WORDS);
     let mut w = matrices::fresh::fresh_weight(p, i, j);
-    let mut k: usize = 0;
-    while k < n {
+    for k in 0..n {
         let x = words::weight_at(a, from + k * WEIGHT_WORDS);
         w = take_entry(p, w, x, entries, k * WEIGHT_WORDS);
-        k += 1;
     }
     w
 }
 
 // Puts w at `at`, and says whether that changed a word.
+#[tactic(auto, using(matrices::proofs::Entries::write_is))]
 fn put(entries: &mut [u32], at: usize, w: Weight) -> bool
     requires { at + weight_words ≤ length entries.old }
     ensures entries_unchanged { result ≡ false → entries.new ≡ entries.old }
     ensures entries_after { entries.new ≡ take at entries.old ++ (words (weight_of w) ++ drop weight_words (drop at entries.old)) }
 {
-    let old = words::weight_at(entries, at);
-    if weights::comparing::same(w, old) {
+    if weights::comparing::same(w, words::weight_at(entries, at)) {
         return false;
     }
     words::write_at(entries, at, w);
@@ -73,13 +65,12 @@ fn pass(p: Places, n: usize, a: &[u32], j: usize, entries: &mut [u32]) -> bool
     ensures entries_after { entries.new ≡ row_words n (passed (places_of p) n (matrix_in places n a.now) j n (row_in places entries.old)) ++ drop (n * weight_words) entries.old }
 {
     let mut changed = false;
-    let mut i: usize = 0;
-    while i < n {
+    for i in 0..n {
         let w = renew(p, n, a, i, j, entries);
+        // An if: with |= a settle is slower.
         if put(entries, i * WEIGHT_WORDS, w) {
             changed = true;
         }
-        i += 1;
     }
     changed
 }
@@ -90,12 +81,10 @@ pub fn settle_column(p: Places, n: usize, a: &[u32], j: usize, entries: &mut [u3
     ensures { entries.new ≡ row_words n (column (best (language (places_of p)) n (matrix_in places n a.now)) j) ++ drop (n * weight_words) entries.old }
 {
     matrices::fresh::fresh_row(p, n, j, entries);
-    let mut t: usize = 1;
-    while t < n {
+    for _ in 1..n {
         if !pass(p, n, a, j, entries) {
             return;
         }
-        t += 1;
     }
 }
 
@@ -104,11 +93,9 @@ fn write_column(n: usize, j: usize, entries: &[u32], r: &mut [u32])
     requires { Square n r.old × (j < n) × (n * weight_words ≤ length entries.now) }
     ensures { r.new ≡ matrix_words n (set_column j (row_in places entries.now) (matrix_in places n r.old)) }
 {
-    let mut i: usize = 0;
-    while i < n {
+    for i in 0..n {
         let w = words::weight_at(entries, i * WEIGHT_WORDS);
         words::write_at(r, i * (n * WEIGHT_WORDS) + j * WEIGHT_WORDS, w);
-        i += 1;
     }
 }
 

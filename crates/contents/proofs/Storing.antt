@@ -124,7 +124,3 @@ module _ (s : List ℕ) (h : Head) (list : Listing) (first : ℕ) (r₀ rest : L
     holds = clean ∙ ap (λ (l : List ℕ). l ++ rest) (table_none s h list first) ∙ ap (λ (l : List ℕ). listed_table s h list first 0 ++ l) (sym behind);
     long = refl;
   }
-
-  pub stored_all : (e count : ℕ) (r : List ℕ) → Stored s h list first e r₀ r → e ≡ count → r ≡ listed_table s h list first count ++ rest
-  stored_all e count r st q =
-      st.holds ∙ ap (λ (l : List ℕ). listed_table s h list first e ++ l) behind ∙ ap (λ (z : ℕ). listed_table s h list first z ++ rest) q

@@ -5,12 +5,11 @@ use mathlib.Core.Logic.{⊎_elim}
 use mathlib.Core.Bool.{Bool, true, false, cond, ◌&&◌}
 use Prim.Native.Nat.{ℕ, zero, suc, ◌+◌, ◌*◌, ◌≤◌, ◌<◌}
 use native.Mathlib.Nat.{zero-mul, suc-mul, eq-or-lt_of_le, le_of_suc-le-suc, mul-le-mul, add-zero, add-suc, suc-add, zero-add}
-use native.Mathlib.Numerals.{add-one}
 use native.Mathlib.Omega.{arith}
 use borrow.Author.Tests.{eq-eqb, ne_eqb}
 use lib.Dec.{eqb}
-use lib.ListN.{length, drop, set, replicate, length-set, length-replicate, replicate-append-replicate, drop_of_length-le}
-use lib.Seq.{sets, sets-eq, set-append_left, drop-cons, set_at}
+use lib.ListN.{length, set, replicate, length-set, replicate-append-replicate, drop_of_length-le}
+use lib.Seq.{sets, sets-eq, set-append_left}
 use Rattle.matrices.specs.Buffers.{blocks}
 use Rattle.matrices.proofs.Blocks.{blocks_cong, length_blocks, block_room}
 use Rattle.contents.specs.Contents.{grid}
@@ -105,17 +104,6 @@ blocks_same k t (suc n) = rw (blocks_same k t n, replicate-append-replicate, suc
 
 pub grid_same : (k t n m : ℕ) → grid n m (λ _ _. replicate k t) ≡ replicate (n * (m * k)) t
 grid_same k t n m = blocks_cong _ _ n (λ _ _. blocks_same k t m) ∙ blocks_same (m * k) t n
-
--- one more word cleared
-pub clear_more : (t i : ℕ) (l₀ l : List ℕ) → i < length l₀ → l ≡ replicate i t ++ drop i l₀ → set l i t ≡ replicate (i + 1) t ++ drop (i + 1) l₀
-clear_more t i l₀ l h e =
-    ap (λ (z : List ℕ). set z i t) (e ∙ ap (λ (z : List ℕ). replicate i t ++ z) (drop-cons l₀ i 0 h))
-    ∙ set_at (replicate i t) _ (drop (suc i) l₀) t i (length-replicate i t)
-    ∙ snoc i
-    ∙ ap (λ (z : ℕ). replicate z t ++ drop z l₀) (sym (add-one i))
-  where
-    snoc : (i : ℕ) → replicate i t ++ (t ∷ drop (suc i) l₀) ≡ replicate (suc i) t ++ drop (suc i) l₀
-    snoc i = sym (append_assoc (replicate i t) (t ∷ []) (drop (suc i) l₀)) ∙ rw (replicate-append-replicate i 1, add-one)
 
 pub product : (x y a b : ℕ) → x ≤ a → y ≤ b → x * y ≤ a * b
 product x y a b h g = mul-le-mul h g

@@ -115,25 +115,18 @@ fn clear(size: usize, r: &mut [u32])
     requires { size ≤ length r.old }
     ensures { r.new ≡ replicate size ones ++ drop size r.old }
 {
-    let mut i: usize = 0;
-    while i < size {
-        r[i] = ONES;
-        i += 1;
-    }
+    r[..size].fill(ONES);
 }
 
 // Writes a whole list of records.
-#[tactic(auto, using(crate::proofs::Storing::stored_none, crate::proofs::Storing::stored_more, crate::proofs::Storing::stored_all))]
 fn fill(file: &[u8], h: Head, list: Listing, first: u32, count: u32, r: &mut [u32])
     requires { SmallHead h × (first ≤ 900000) × (count ≤ 65535) × Listed file.now h list first count × (size_of h list ≤ length r.old) }
     ensures { r.new ≡ listed_table file.now h list first count ++ drop (size_of h list) r.old }
 {
     clear(size_of(h, list), r);
     let size = record_length(list, h.mode, h.language.count);
-    let mut at = first;
     for e in 0..count {
-        store(file, h, list, at, r);
-        at += size;
+        store(file, h, list, first + e * size, r);
     }
 }
 

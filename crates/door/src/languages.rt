@@ -18,19 +18,13 @@ const GAIN: u16 = 4;
 fn component(kind: u16, limit: u16) -> Component
     ensures { result ≡ component_of kind limit }
 {
-    if kind == DIST {
-        return Component::Dist;
+    match kind {
+        DIST => Component::Dist,
+        WIDTH => Component::Width(limit),
+        CLASS => Component::Class(limit),
+        GAIN => Component::Gain,
+        _ => Component::Width(0),
     }
-    if kind == WIDTH {
-        return Component::Width(limit);
-    }
-    if kind == CLASS {
-        return Component::Class(limit);
-    }
-    if kind == GAIN {
-        return Component::Gain;
-    }
-    Component::Width(0)
 }
 
 // A slice of another length is a language of no components, which every call refuses 5.
@@ -46,16 +40,11 @@ pub fn language(numbers: &[u16]) -> Language
             fourth: Component::Dist,
         };
     }
-    let count = numbers[0] as u32;
-    let first = component(numbers[1], numbers[2]);
-    let second = component(numbers[3], numbers[4]);
-    let third = component(numbers[5], numbers[6]);
-    let fourth = component(numbers[7], numbers[8]);
     Language {
-        count,
-        first,
-        second,
-        third,
-        fourth,
+        count: numbers[0] as u32,
+        first: component(numbers[1], numbers[2]),
+        second: component(numbers[3], numbers[4]),
+        third: component(numbers[5], numbers[6]),
+        fourth: component(numbers[7], numbers[8]),
     }
 }

@@ -25,14 +25,10 @@ pub fn put_problem(s: &mut [u32], n: u32, m: u32, mode: u32, l: Language)
     requires { problem_words ≤ length s.old }
     ensures { s.new ≡ problem_of n m mode l ++ drop problem_words s.old }
 {
-    let first = l.first;
-    let second = l.second;
-    let third = l.third;
-    let fourth = l.fourth;
     put_pair(s, 0, n, m);
     put_pair(s, 2, mode, l.count);
-    put_place(s, 4, first);
-    put_place(s, 6, second);
-    put_place(s, 8, third);
-    put_place(s, 10, fourth);
+    put_place(s, 4, l.first);
+    put_place(s, 6, l.second);
+    put_place(s, 8, l.third);
+    put_place(s, 10, l.fourth);
 }

@@ -5,7 +5,7 @@ ghost use Rattle.refusals.specs.Checks.{answer_told};
 ghost use Rattle.door.specs.Replies.{reply_of};
 
 use super::Reply;
-use refusals::{Answer, Refusal};
+use refusals::{Refusal, Told};
 
 // Done, with the one number that the call gives.
 pub fn done(value: u32) -> Reply
@@ -23,21 +23,25 @@ pub fn done(value: u32) -> Reply
 pub fn refused(r: Refusal, value: u32) -> Reply
     ensures { result ≡ reply_of (table.told r) value }
 {
-    let t = refusals::tell(r);
+    let Told {
+        number,
+        which,
+        place,
+    } = Told::from(r);
     Reply {
-        number: t.number,
-        which: t.which,
-        place: t.place,
+        number,
+        which,
+        place,
         value,
     }
 }
 
 // The answer of a call that gives no number.
-pub fn answered(a: Answer) -> Reply
+pub fn answered(a: Result<(), Refusal>) -> Reply
     ensures { result ≡ reply_of (answer_told a) 0 }
 {
     match a {
-        Answer::Done => done(0),
-        Answer::Refused(r) => refused(r, 0),
+        Ok(()) => done(0),
+        Err(r) => refused(r, 0),
     }
 }

@@ -6,46 +6,27 @@ use refusals::Told;
 use std::io;
 use std::io::Read;
 
-fn wide(byte: u8) -> u32 {
-    byte as u32
-}
-
-fn byte_at(bytes: &[u8], at: usize) -> u32 {
-    if at < bytes.len() {
-        return wide(bytes[at]);
-    }
-    0
-}
-
-// The word whose bytes start at a place.
+// The word whose bytes start at a place; 0 where they do not all stand there.
 fn word_at(bytes: &[u8], at: usize) -> u32 {
-    if bytes.len() < at {
-        return 0;
+    match bytes.get(at..) {
+        Some([a, b, c, d, ..]) => u32::from_le_bytes([*a, *b, *c, *d]),
+        _ => 0,
     }
-    if bytes.len() - at < 4 {
-        return 0;
-    }
-    byte_at(bytes, at)
-        | (byte_at(bytes, at + 1) << 8)
-        | (byte_at(bytes, at + 2) << 16)
-        | (byte_at(bytes, at + 3) << 24)
 }
 
 // Reads a request without its first word, and says how many bytes it has; 0 where there is none.
 pub fn receive(input: &mut impl Read, bytes: &mut [u8]) -> io::Result<usize>
     ensures { IfOk result (λ size. size ≤ length bytes.new) }
 {
-    let mut first = [0u8; 4];
-    let got = read_full(input, &mut first)?;
-    if got < 4 {
+    let mut first = [0; 4];
+    if read_full(input, &mut first)? < 4 {
         return Ok(0);
     }
-    let size = (word_at(&first, 0) as usize) * 4;
+    let size = u32::from_le_bytes(first) as usize * 4;
     if bytes.len() < size {
         return Ok(0);
     }
-    let read = read_full(input, &mut bytes[..size])?;
-    if read < size {
+    if read_full(input, &mut bytes[..size])? < size {
         return Ok(0);
     }
     Ok(size)
@@ -53,11 +34,8 @@ pub fn receive(input: &mut impl Read, bytes: &mut [u8]) -> io::Result<usize>
 
 // The words of the first `size` bytes, and how many there are.
 pub fn to_words(bytes: &[u8], size: usize, words: &mut [u32]) -> usize {
-    let count = size / 4;
+    let count = words.len().min(size / 4);
     for i in 0..count {
-        if words.len() <= i {
-            return i;
-        }
         words[i] = word_at(bytes, i * 4);
     }
     count
@@ -71,16 +49,10 @@ pub fn low_byte(word: u32) -> u8 {
 pub fn put(frame: &mut [u8], start: usize, words: &[u32]) -> usize {
     let mut at = start;
     for word in words {
-        if frame.len() < at {
-            return at;
+        if frame.len() < at || frame.len() - at < 4 {
+            break;
         }
-        if frame.len() - at < 4 {
-            return at;
-        }
-        frame[at] = low_byte(*word);
-        frame[at + 1] = low_byte(*word >> 8);
-        frame[at + 2] = low_byte(*word >> 16);
-        frame[at + 3] = low_byte(*word >> 24);
+        frame[at..at + 4].copy_from_slice(&word.to_le_bytes());
         at += 4;
     }
     at
@@ -88,30 +60,21 @@ pub fn put(frame: &mut [u8], start: usize, words: &[u32]) -> usize {
 
 // Begins a response; its first word is put when it is sent.
 pub fn begin(frame: &mut [u8], t: Told) -> usize {
-    let words = [0, t.number, t.which, t.place];
-    put(frame, 0, &words)
+    put(frame, 0, &[0, t.number, t.which, t.place])
 }
 
 // Sends a response that ends at a place.
 pub fn send(rt: &impl Print, frame: &mut [u8], end: usize) -> io::Result<()> {
-    if frame.len() < end {
+    if frame.len() < end || end < 4 || 65536 < end {
         return Ok(());
     }
-    if end < 4 {
-        return Ok(());
-    }
-    if 65536 < end {
-        return Ok(());
-    }
-    let first = [(end / 4 - 1) as u32];
-    put(frame, 0, &first);
+    put(frame, 0, &[(end / 4 - 1) as u32]);
     rt.write_all(&frame[..end])
 }
 
 // A response for a buffer that is too long for this program.
 pub fn send_too_long(rt: &impl Print) -> io::Result<()> {
-    let words = [1u32, 4294967295];
-    let mut frame = [0u8; 8];
-    put(&mut frame, 0, &words);
+    let mut frame = [0; 8];
+    put(&mut frame, 0, &[1, u32::MAX]);
     rt.write_all(&frame)
 }

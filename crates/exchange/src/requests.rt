@@ -32,18 +32,14 @@ pub struct Parts {
 
 // A number of a request; 0 past its end.
 pub fn number(words: &[u32], at: usize) -> u32 {
-    if at < words.len() {
-        return words[at];
-    }
-    0
+    words.get(at).copied().unwrap_or(0)
 }
 
 // Limits are 16-bit numbers. A larger one, and an unknown kind, become width 0.
 fn component(kind: u32, value: u32) -> Component {
-    if 65535 < value {
+    let Ok(limit) = u16::try_from(value) else {
         return Component::Width(0);
-    }
-    let limit = value as u16;
+    };
     match kind {
         1 => Component::Dist,
         2 => Component::Width(limit),
@@ -54,17 +50,12 @@ fn component(kind: u32, value: u32) -> Component {
 }
 
 pub fn language(words: &[u32]) -> Language {
-    let count = number(words, 1);
-    let first = component(number(words, 2), number(words, 3));
-    let second = component(number(words, 4), number(words, 5));
-    let third = component(number(words, 6), number(words, 7));
-    let fourth = component(number(words, 8), number(words, 9));
     Language {
-        count,
-        first,
-        second,
-        third,
-        fourth,
+        count: number(words, 1),
+        first: component(number(words, 2), number(words, 3)),
+        second: component(number(words, 4), number(words, 5)),
+        third: component(number(words, 6), number(words, 7)),
+        fourth: component(number(words, 8), number(words, 9)),
     }
 }
 
@@ -72,25 +63,23 @@ pub fn language(words: &[u32]) -> Language {
 fn buffer_length(words: &[u32], buffers: usize, which: usize) -> usize
     ensures { result ≤ 4294967295 }
 {
-    if buffers <= which {
-        return 0;
+    if which < buffers && which <= 3 {
+        number(words, LENGTHS + which) as usize
+    } else {
+        0
     }
-    if 3 < which {
-        return 0;
-    }
-    number(words, LENGTHS + which) as usize
 }
 
 // The request has just the words that it states.
 pub fn adds_up(words: &[u32], buffers: usize) -> bool {
-    if 4 < buffers {
-        return false;
-    }
-    let first = buffer_length(words, buffers, 0);
-    let second = buffer_length(words, buffers, 1);
-    let third = buffer_length(words, buffers, 2);
-    let fourth = buffer_length(words, buffers, 3);
-    LENGTHS + buffers + first + second + third + fourth == words.len()
+    buffers <= 4
+        && LENGTHS
+            + buffers
+            + buffer_length(words, buffers, 0)
+            + buffer_length(words, buffers, 1)
+            + buffer_length(words, buffers, 2)
+            + buffer_length(words, buffers, 3)
+            == words.len()
 }
 
 // The place a number of words on, but none past the end.
@@ -98,10 +87,7 @@ fn forth(start: usize, count: usize, end: usize) -> usize
     requires { start ≤ end }
     ensures { (start ≤ result) × (result ≤ end) }
 {
-    if end - start < count {
-        return end;
-    }
-    start + count
+    start + count.min(end - start)
 }
 
 pub fn cut(words: &[u32], buffers: usize) -> Parts

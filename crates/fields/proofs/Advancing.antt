@@ -13,12 +13,11 @@ use Rattle.weights.specs.declared.Language.{Language}
 use Rattle.weights.specs.Sizes.{product_tags}
 use Rattle.fields.specs.declared.Found.{Found}
 use Rattle.file_bytes.specs.Bytes.{two_at}
-use Rattle.fields.specs.Nested.{added, with_component, with_tag, dist_tag, width_tag, class_tag, gain_tag, product_tag, component_read, after, language_from, language_at}
+use Rattle.fields.specs.Nested.{added, with_component, with_tag, dist_tag, width_tag, class_tag, gain_tag, product_tag, component_read, after, language_from, language_at, taken}
 use Rattle.fields.specs.Parts.{Onward, Advances}
 use Rattle.std.specs.Prelude.{Result, Ok, Err}
 use Rattle.fields.specs.declared.Taken.{Taken}
 use Rattle.refusals.specs.declared.Refusal.{Refusal}
-use Rattle.fields.specs.Nested.{taken}
 
 by_language : (P : Language → Type 0) (b : Bool) {x y : Language} → P x → P y → P (cond b x y)
 by_language P true hx hy = hx

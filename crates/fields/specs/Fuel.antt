@@ -1,12 +1,11 @@
 -- The definition of a language in a file once more, with any answer where the fuel ends.
 -- To be believed: that it is `language_from` (Nested) but for its first line. That no file comes to that line is `end_unmet`
 -- (proofs/Fuel).
-use Rattle.std.specs.Prelude.{ℕ, zero, suc, ◌+◌, List, cond, leb, eqb, length, get_or}
+use Rattle.std.specs.Prelude.{ℕ, zero, suc, ◌+◌, List, cond, leb, eqb, length, get_or, Result, Err}
 use Rattle.refusals.specs.declared.Refusal.TheVariants.{Bytes, BadCount}
 use Rattle.weights.specs.Sizes.{product_tags}
 use Rattle.fields.specs.declared.Found.{Found}
 use Rattle.fields.specs.Nested.{with_tag, product_tag, component_read, after}
-use Rattle.std.specs.Prelude.{Result, Err}
 use Rattle.fields.specs.declared.Taken.{Taken}
 use Rattle.refusals.specs.declared.Refusal.{Refusal}
 

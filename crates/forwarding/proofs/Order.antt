@@ -9,7 +9,7 @@ use Rattle.refusals.specs.declared.Refusal.TheVariants.{Law, Equation}
 use Rattle.refusals.specs.Checks.{unless, first_of, Check}
 use Rattle.std.specs.Result.{result_and}
 use Rattle.refusals.specs.Cases.{Case, checks_of, check_of, first_cases}
-use Rattle.refusals.proofs.First.{unless_passes, both_pass, or_passed, stops, goes_on, result_and_cong, result_and_assoc, first_append, first_passes, pass_first}
+use Rattle.refusals.proofs.First.{unless_passes, both_pass, or_passed, result_and_cong, result_and_assoc, first_append, first_passes, pass_first}
 use Rattle.refusals.proofs.Cases.{check_append}
 use Rattle.algebra.proofs.Embedding.{GoesTo}
 use Rattle.weights.specs.declared.Component.{Component}
@@ -69,24 +69,16 @@ module _ (mode : Mode) (cs : List Component) (n m : ℕ) (a r mapping : List ℕ
       let (ec, (ea, (er, (em, u)))) = first_passes firsts e in
       record { in_arcs = check_formed 1 arc_sum cs n a qa ea; in_routes = check_formed 2 matrix_sum cs n r qr er; in_mapping = entries.check_formed 3 mode arc_sum cs n m mapping qm em }
 
-  -- ---- what the code finds after the entrance
-
-  module _ (g : Measured cs n m a r mapping) {by_c by_arcs by_routes by_mapping by_tables by_entries found : Check}
-      (q_c : by_c ≡ law_c_check mode cs) (qa : by_arcs ≡ (arcs_case cs n a).check) (qr : by_routes ≡ (routes_case cs n r).check) (qm : by_mapping ≡ (mapping_case mode cs n m mapping).check)
-      (qt : by_tables ≡ result_and by_routes by_mapping) (qe : by_entries ≡ result_and by_arcs by_tables) (q : found ≡ result_and by_c by_entries) where
-    found_firsts : found ≡ first_of firsts
-    found_firsts = q ∙ ap₂ result_and q_c (qe ∙ ap₂ result_and qa (qt ∙ two_checks (routes_case cs n r).check (mapping_case mode cs n m mapping).check qr qm))
-
-    pub firsts_refuse : {x : Refusal} → found ≡ Err x → Err x ≡ contents_check mode cs n m a r mapping
-    firsts_refuse e = sym (solves_last ∙ stops (solves_case cs n a r).check (sym found_firsts ∙ e))
-
-    pub equation_last : {c : Check} → found ≡ Ok tt → c ≡ (solves_case cs n a r).check → c ≡ contents_check mode cs n m a r mapping
-    equation_last e s = sym (solves_last ∙ goes_on (sym found_firsts ∙ e) (sym s))
-
-    pub matrices_given : found ≡ Ok tt → Given cs n a r
-    matrices_given e =
-        let w = firsts_formed g.in_arcs g.in_routes g.in_mapping (sym found_firsts ∙ e) in
-        record { limits = g.limits; sound = g.sound; law_d_holds = g.law_d_holds; law_u_holds = g.law_u_holds; arcs = w.in_arcs; routes = w.in_routes }
+  -- what is known once A and R are well formed
+  pub matrices_given : Measured cs n m a r mapping → Ok tt ≡ (arcs_case cs n a).check → Ok tt ≡ (routes_case cs n r).check → Given cs n a r
+  matrices_given g ea er = record {
+    limits = g.limits;
+    sound = g.sound;
+    law_d_holds = g.law_d_holds;
+    law_u_holds = g.law_u_holds;
+    arcs = check_formed 1 arc_sum cs n a g.in_arcs (sym ea);
+    routes = check_formed 2 matrix_sum cs n r g.in_routes (sym er);
+  }
 
 -- ---- the call
 

@@ -7,21 +7,20 @@ ghost use Rattle.forwarding.specs.Ready.{Measured, contents_check};
 
 use matrices::checks::first_malformed;
 use modes::Mode;
-use refusals::checks::or_else;
-use refusals::{Check, Refusal};
+use refusals::Refusal;
 use table_guards::check_law_c;
 use tables::checks::first_malformed_entry;
 use weights::{ARC_SUM, MATRIX_SUM, Places};
 
 // 12: R satisfies R = (A join R) best fresh.
-fn check_equation(p: Places, n: usize, a: &[u32], r: &[u32]) -> Check
+fn check_equation(p: Places, n: usize, a: &[u32], r: &[u32]) -> Result<(), Refusal>
     requires { Given (places_of p) n a.now r.now }
     ensures { result ≡ (solves_case (places_of p) n a.now r.now).check }
 {
-    if rows::equation::solves(p, n, a, r) {
-        return Check::Passed;
+    if !rows::equation::solves(p, n, a, r) {
+        return Err(Refusal::Equation { which: 2, place: 0 });
     }
-    Check::Refused(Refusal::Equation { which: 2, place: 0 })
+    Ok(())
 }
 
 // 10 for C, 6 on A, R and M, then 12, which needs well-formed matrices.
@@ -33,16 +32,13 @@ pub fn check_contents(
     a: &[u32],
     r: &[u32],
     mapping: &[u32],
-) -> Check
+) -> Result<(), Refusal>
     requires { Measured (places_of p) n m a.now r.now mapping.now }
     ensures { result ≡ contents_check mode (places_of p) n m a.now r.now mapping.now }
 {
-    let in_arcs = first_malformed(p, ARC_SUM, 1, n, a);
-    let in_routes = first_malformed(p, MATRIX_SUM, 2, n, r);
-    let in_mapping = first_malformed_entry(p, mode, ARC_SUM, 3, n, m, mapping);
-    let entries = or_else(in_arcs, or_else(in_routes, in_mapping));
-    match or_else(check_law_c(p, mode), entries) {
-        Check::Refused(x) => Check::Refused(x),
-        Check::Passed => check_equation(p, n, a, r),
-    }
+    check_law_c(p, mode)?;
+    first_malformed(p, ARC_SUM, 1, n, a)?;
+    first_malformed(p, MATRIX_SUM, 2, n, r)?;
+    first_malformed_entry(p, mode, ARC_SUM, 3, n, m, mapping)?;
+    check_equation(p, n, a, r)
 }

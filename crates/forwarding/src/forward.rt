@@ -6,10 +6,9 @@ ghost use Rattle.forwarding.specs.Calls.{on_tables, forward_check, forward_left}
 
 use super::checks::check_contents;
 use guards::entrance::enter;
-use guards::{Ready, check_length, check_nodes};
+use guards::{check_length, check_nodes};
 use modes::choosing::mode_for;
-use refusals::checks::or_else;
-use refusals::{Answer, Check};
+use refusals::Refusal;
 use table_guards::{check_destinations, check_mode, check_table_length, chosen_mode};
 use weights::Language;
 
@@ -23,28 +22,20 @@ pub fn forward(
     r: &[u32],
     mapping: &[u32],
     f: &mut [u32],
-) -> Answer
+) -> Result<(), Refusal>
     ensures result_value { answer_told result ≡ answer_told (forward_check (on_tables (on_network l n a.now) m mode r.now mapping.now) f.old) }
     ensures f_after { f.new ≡ forward_left (on_tables (on_network l n a.now) m mode r.now mapping.now) f.old }
 {
     let chosen = mode_for(l, m as usize, mode);
-    let others = or_else(check_destinations(m), check_mode(chosen));
-    let matrices = or_else(check_length(1, n, a), check_length(2, n, r));
+    let others = check_destinations(m).and(check_mode(chosen));
+    let matrices = check_length(1, n, a).and(check_length(2, n, r));
     let mapping_length = check_table_length(3, n, m, mapping);
     let table_length = check_table_length(4, n, m, f);
-    let tables = or_else(mapping_length, table_length);
-    let sizes = or_else(check_nodes(n), others);
-    match enter(l, sizes, or_else(matrices, tables)) {
-        Ready::Refused(x) => Answer::Refused(x),
-        Ready::Given(p) => {
-            let meant = chosen_mode(chosen);
-            match check_contents(p, meant, n as usize, m as usize, a, r, mapping) {
-                Check::Refused(x) => Answer::Refused(x),
-                Check::Passed => {
-                    sums::forward_table(p, meant, n as usize, m as usize, r, mapping, f);
-                    Answer::Done
-                }
-            }
-        }
-    }
+    let tables = mapping_length.and(table_length);
+    let sizes = check_nodes(n).and(others);
+    let p = enter(l, sizes, matrices.and(tables))?;
+    let meant = chosen_mode(chosen);
+    check_contents(p, meant, n as usize, m as usize, a, r, mapping)?;
+    sums::forward_table(p, meant, n as usize, m as usize, r, mapping, f);
+    Ok(())
 }

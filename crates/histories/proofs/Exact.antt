@@ -106,7 +106,7 @@ module _ (N : OnNetwork) (r list : List ℕ) where
   sum_refuses : (x : Refusal) → ((sum_case N r list).check ≡ Err x) ↔ DueIn (sum_case N r list) x
   sum_refuses x = (λ e. there (ltb count (length list)) refl e, back)
     where
-      there : (b : Bool) → ltb count (length list) ≡ b → cond b (Err (Sum 0 count)) (Ok tt) ≡ Err x → DueIn (sum_case N r list) x
+      there : (b : Bool) → ltb count (length list) ≡ b → ◌≡◌ {A = Check} (cond b (Err (Sum 0 count)) (Ok tt)) (Err x) → DueIn (sum_case N r list) x
       there true p e = (count, sym (refused_one e), (stops count).0 (refl, rw (length_steps list) (ltb-true count (length list) p)))
       there false p e = absurd (passed_not x e)
 

@@ -16,24 +16,11 @@ fn same_words(s: &[u32], at: usize, entries: &[u32], from: usize) -> bool
     requires { (at + weight_words ≤ length s.now) × (from + weight_words ≤ length entries.now) }
     ensures { result ≡ same_values (words_at s.now at) (words_at entries.now from) }
 {
-    let a = s[at];
-    let b = s[at + 1];
-    let c = s[at + 2];
-    let d = s[at + 3];
-    let e = entries[from];
-    let f = entries[from + 1];
-    let g = entries[from + 2];
-    let h = entries[from + 3];
-    if a != e {
-        return false;
-    }
-    if b != f {
-        return false;
-    }
-    if c != g {
-        return false;
-    }
-    d == h
+    // Word by word: with slices compared a handover is slower.
+    s[at] == entries[from]
+        && s[at + 1] == entries[from + 1]
+        && s[at + 2] == entries[from + 2]
+        && s[at + 3] == entries[from + 3]
 }
 
 // Column j of the matrix holds the words of `entries`, one for each row.
@@ -41,19 +28,10 @@ fn column_same(n: usize, entries: &[u32], s: &[u32], j: usize) -> bool
     requires { Square n s.now × (j < n) × (n * weight_words ≤ length entries.now) }
     ensures { result ≡ every n (held_at n s.now entries.now j) }
 {
-    let mut i: usize = 0;
-    while i < n {
-        if !same_words(
-            s,
-            i * (n * WEIGHT_WORDS) + j * WEIGHT_WORDS,
-            entries,
-            i * WEIGHT_WORDS,
-        ) {
-            return false;
-        }
-        i += 1;
-    }
-    true
+    (0..n).all(|i| {
+        let at = i * (n * WEIGHT_WORDS) + j * WEIGHT_WORDS;
+        same_words(s, at, entries, i * WEIGHT_WORDS)
+    })
 }
 
 // Column j of the matrix holds the words of the best weights.
@@ -71,12 +49,5 @@ pub fn all_best(p: Places, n: usize, a: &[u32], s: &[u32]) -> bool
     requires { GivenArcs (places_of p) n a.now × Square n s.now }
     ensures { result ≡ same_values s.now (matrix_words n (best (language (places_of p)) n (matrix_in places n a.now))) }
 {
-    let mut j: usize = 0;
-    while j < n {
-        if !column_best(p, n, a, s, j) {
-            return false;
-        }
-        j += 1;
-    }
-    true
+    (0..n).all(|j| column_best(p, n, a, s, j))
 }

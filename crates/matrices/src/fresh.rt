@@ -26,9 +26,10 @@ pub fn fresh_weight(p: Places, i: usize, j: usize) -> Weight
     ensures { weight_of result ≡ fresh (language (places_of p)) i j }
 {
     if i == j {
-        return unit_weight(p);
+        unit_weight(p)
+    } else {
+        Weight::NoRoute
     }
-    Weight::NoRoute
 }
 
 // Writes the fresh row i over the first n entries.
@@ -36,11 +37,8 @@ pub fn fresh_row(p: Places, n: usize, i: usize, row: &mut [u32])
     requires { (n ≤ 16) × (n * weight_words ≤ length row.old) }
     ensures { row.new ≡ row_words n (fresh (language (places_of p)) i) ++ drop (n * weight_words) row.old }
 {
-    let mut j: usize = 0;
-    while j < n {
-        let w = fresh_weight(p, i, j);
-        words::write_at(row, j * WEIGHT_WORDS, w);
-        j += 1;
+    for j in 0..n {
+        words::write_at(row, j * WEIGHT_WORDS, fresh_weight(p, i, j));
     }
 }
 
@@ -49,10 +47,8 @@ pub fn fresh(p: Places, n: usize, r: &mut [u32])
     requires { Square n r.old }
     ensures { r.new ≡ matrix_words n (fresh (language (places_of p))) }
 {
-    let mut i: usize = 0;
-    while i < n {
+    for i in 0..n {
         let at = i * (n * WEIGHT_WORDS);
         fresh_row(p, n, i, &mut r[at..]);
-        i += 1;
     }
 }

@@ -15,16 +15,11 @@ fn row_same(n: usize, row: &[u32], r: &[u32], i: usize) -> bool
     ensures { result ≡ every n (same_at (row_in places row.now) (matrix_in places n r.now i)) }
 {
     let from = i * (n * WEIGHT_WORDS);
-    let mut j: usize = 0;
-    while j < n {
+    (0..n).all(|j| {
         let x = words::weight_at(row, j * WEIGHT_WORDS);
         let y = words::weight_at(r, from + j * WEIGHT_WORDS);
-        if !weights::comparing::same(x, y) {
-            return false;
-        }
-        j += 1;
-    }
-    true
+        weights::comparing::same(x, y)
+    })
 }
 
 // Row i satisfies the routing equation.
@@ -42,12 +37,5 @@ pub fn solves(p: Places, n: usize, a: &[u32], r: &[u32]) -> bool
     requires { Given (places_of p) n a.now r.now }
     ensures { result ≡ solves (places_of p) n (matrix_in places n a.now) (matrix_in places n r.now) }
 {
-    let mut i: usize = 0;
-    while i < n {
-        if !row_solves(p, n, a, r, i) {
-            return false;
-        }
-        i += 1;
-    }
-    true
+    (0..n).all(|i| row_solves(p, n, a, r, i))
 }

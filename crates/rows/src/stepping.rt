@@ -20,10 +20,8 @@ pub fn new_row(p: Places, n: usize, a: &[u32], r: &[u32], i: usize, row: &mut [u
 {
     let single = arcs::is_single(p);
     fresh::fresh_row(p, n, i, row);
-    let mut k: usize = 0;
-    while k < n {
+    for k in 0..n {
         arcs::take_arc(p, single, n, a, r, i, k, row);
-        k += 1;
     }
 }
 
@@ -31,24 +29,15 @@ fn is_low(w: Weight) -> bool
     ensures { result ≡ low (weight_of w) }
 {
     let Weight::Route {
-        first: a,
-        second: b,
-        third: c,
-        fourth: d,
+        first,
+        second,
+        third,
+        fourth,
     } = w
     else {
         return true;
     };
-    if MATRIX_SUM < a {
-        return false;
-    }
-    if MATRIX_SUM < b {
-        return false;
-    }
-    if MATRIX_SUM < c {
-        return false;
-    }
-    d <= MATRIX_SUM
+    first <= MATRIX_SUM && second <= MATRIX_SUM && third <= MATRIX_SUM && fourth <= MATRIX_SUM
 }
 
 // No value of the first n entries is above 983,025.
@@ -56,15 +45,7 @@ fn row_low(n: usize, row: &[u32]) -> bool
     requires { (n ≤ 16) × (n * weight_words ≤ length row.now) }
     ensures { result ≡ every n (low_at row.now) }
 {
-    let mut j: usize = 0;
-    while j < n {
-        let w = words::weight_at(row, j * WEIGHT_WORDS);
-        if !is_low(w) {
-            return false;
-        }
-        j += 1;
-    }
-    true
+    (0..n).all(|j| is_low(words::weight_at(row, j * WEIGHT_WORDS)))
 }
 
 // Writes the row that it is lent, and no more.
@@ -72,11 +53,7 @@ fn write_row(row: &[u32], part: &mut [u32])
     requires { length part.old ≤ length row.now }
     ensures { part.new ≡ take (length part.old) row.now }
 {
-    let mut t: usize = 0;
-    while t < part.len() {
-        part[t] = row[t];
-        t += 1;
-    }
+    part.copy_from_slice(&row[..part.len()]);
 }
 
 // The row step of a node: done, or refused, with the matrix untouched, where it would store a sum above 983,025.

@@ -33,21 +33,14 @@ fn take_node(
     requires { InTable m k.0 d.0 s.now × AtMost 2147483647 (weight_of x) × AtMost 2147483647 (weight_in (table_in places m s.now k.0 d.0)) }
     ensures { entry_of result ≡ pick (mode_of mode (places_of p)).entries (entry_of e) (applied (places_of p) (weight_of x) (table_in places m s.now k.0 d.0)) }
 {
-    let Weight::Route {
-        first: _,
-        second: _,
-        third: _,
-        fourth: _,
-    } = x
-    else {
+    let Weight::Route { .. } = x else {
         return e;
     };
     let y = entries::look_up(s, m, k, d);
     if gaining::loses(p, mode, e, x, y) {
         return e;
     }
-    let z = applying::apply(p, x, y);
-    comparing::better_of(p, mode, e, z)
+    comparing::better_of(p, mode, e, applying::apply(p, x, y))
 }
 
 // The entry that the node forwards to the destination by.
@@ -64,15 +57,11 @@ pub fn forward_entry(
     requires { GivenTable mode (places_of p) n m r.now s.now × (node.0 < n) × (destination.0 < m) }
     ensures { entry_of result ≡ forwarded (language (places_of p)) (mode_of mode (places_of p)) n (matrix_in places n r.now) (table_in places m s.now) node.0 destination.0 }
 {
-    let i = node.0;
-    let d = destination.0;
-    let from = i * (n * WEIGHT_WORDS);
+    let from = node.0 * (n * WEIGHT_WORDS);
     let mut e = Entry::Empty;
-    let mut k: usize = 0;
-    while k < n {
+    for k in 0..n {
         let x = words::weight_at(r, from + k * WEIGHT_WORDS);
-        e = take_node(p, mode, e, x, s, m, Node(k), Destination(d));
-        k += 1;
+        e = take_node(p, mode, e, x, s, m, Node(k), destination);
     }
     e
 }
@@ -91,12 +80,9 @@ fn forward_row(
     requires { GivenTable mode (places_of p) n m r.now s.now × (node.0 < n) × (m * entry_words ≤ length row.old) }
     ensures { row.new ≡ table_row_words m (forwarded (language (places_of p)) (mode_of mode (places_of p)) n (matrix_in places n r.now) (table_in places m s.now) node.0) ++ drop (m * entry_words) row.old }
 {
-    let i = node.0;
-    let mut d: usize = 0;
-    while d < m {
-        let e = forward_entry(p, mode, n, m, r, s, Node(i), Destination(d));
+    for d in 0..m {
+        let e = forward_entry(p, mode, n, m, r, s, node, Destination(d));
         entries::write_at(row, d * ENTRY_WORDS, e);
-        d += 1;
     }
 }
 
@@ -105,10 +91,8 @@ pub fn forward_table(p: Places, mode: Mode, n: usize, m: usize, r: &[u32], s: &[
     requires { GivenTable mode (places_of p) n m r.now s.now × Sized n m f.old }
     ensures { f.new ≡ table_words n m (forwarded (language (places_of p)) (mode_of mode (places_of p)) n (matrix_in places n r.now) (table_in places m s.now)) }
 {
-    let mut i: usize = 0;
-    while i < n {
+    for i in 0..n {
         let at = i * (m * ENTRY_WORDS);
         forward_row(p, mode, n, m, r, s, Node(i), &mut f[at..]);
-        i += 1;
     }
 }

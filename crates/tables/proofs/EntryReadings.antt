@@ -1,9 +1,8 @@
 -- The words of an entry in a buffer, one by one, and what the code reads from them.
-use Prim.Native.Nat.{ℕ, suc, ◌+◌, ◌*◌, ◌≤◌, ◌<◌}
+use Prim.Native.Nat.{ℕ, suc, ◌+◌, ◌≤◌, ◌<◌}
 use mathlib.Core.Path.{◌≡◌, refl, sym, ap, ◌∙◌}
 use mathlib.Core.Bool.{Bool, true, false, cond, ◌&&◌}
 use mathlib.Core.List.{List, [], ◌∷◌}
-use native.Mathlib.Nat.{mul-le-mul, mul-le-mul_right}
 use native.Mathlib.Numerals.{add-one, add-two, add-three, add-four}
 use native.Mathlib.Omega.{arith}
 use lib.Dec.{leb, eqb}
@@ -110,9 +109,3 @@ module _ (m i d : ℕ) (s : List ℕ) (q : ℕ) (room : table_place m i d + entr
   pub look_mapped : b ≡ false → mapped (get_or s q 0 ∷ get_or s (q + 1) 0 ∷ get_or s (q + 2) 0 ∷ get_or s (q + 3) 0 ∷ []) (get_or s (q + 4) 0) ≡ table_in places m s i d
   unfolding table_in
   look_mapped t = rw (five, sym h ∙ t)
-
--- ---- places
-
--- the offset of an entry of a small table is small
-pub place_small : (m i : ℕ) → i < 16 → m ≤ 32 → i * (m * entry_words) ≤ 2560
-place_small m i hi hm = let h : i ≤ 16 = omega arith in mul-le-mul h (mul-le-mul_right entry_words hm)

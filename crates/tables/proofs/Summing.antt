@@ -46,9 +46,6 @@ module _ (mode : Mode) (cs : List Component) (R : ℕ → ℕ → Weight) (M : �
   pub over_next : (k : ℕ) (e e' : Entry) (x : Weight) → e' ≡ pick (mode_of mode cs).entries e (applied cs x (M k d)) → x ≡ R i k → e ≡ over k → e' ≡ over (k + 1)
   over_next k e e' x h q w = h ∙ ap₂ (λ (f : Entry) (y : Weight). pick (mode_of mode cs).entries f (applied cs y (M k d))) w q ∙ sym (over_more k)
 
-  pub over_all : (k n : ℕ) (e : Entry) → e ≡ over k → k ≡ n → e ≡ over n
-  over_all k n e h q = h ∙ ap over q
-
 -- no route leaves an entry as it is
 pub left_out : (mode : Mode) (cs : List Component) (e f : Entry) → e ≡ pick (mode_of mode cs).entries e (applied cs none f)
 unfolding pick

@@ -1,44 +1,23 @@
 // Entries in buffers: looked up and read by a node and a destination, with malformed patterns told apart, and written.
-ghost use Rattle.std.specs.Prelude.{◌≡◌, ◌∷◌, [], ◌+◌, ◌≤◌, ◌<◌, length};
+ghost use Rattle.std.specs.Prelude.{◌≡◌, ◌+◌, ◌≤◌, ◌<◌, length};
 ghost use Rattle.std.proofs.lemmas.List.Edits.{sets};
-ghost use Rattle.weights.specs.Sizes.{places, entry_words, ones};
+ghost use Rattle.weights.specs.Sizes.{places, entry_words};
 ghost use Rattle.weights.specs.Languages.{places_of};
 ghost use Rattle.weights.specs.Values.{weight_of};
-ghost use Rattle.weights.specs.Words.{all_are};
 ghost use Rattle.modes.specs.Entries.{entry_of};
 ghost use Rattle.tables.specs.Tables.{words_of, reading_entry, entry_read_of, entry_at, table_place, table_in};
 ghost use Rattle.tables.specs.Parts.{InTable, route_read};
 
 use modes::{Entry, Mode, choosing};
 use numbers::{Destination, Node};
-use weights::{ENTRY_WORDS, ONES, Places, Weight};
+use weights::{ENTRY_WORDS, ONES, Places, WEIGHT_WORDS, Weight};
 
 // Where the entry of a node and a destination begins.
 fn place(m: usize, node: Node, destination: Destination) -> usize
     requires { (node.0 < 16) × (destination.0 < m) × (m ≤ 32) }
     ensures { result ≡ table_place m node.0 destination.0 }
 {
-    let i = node.0;
-    let d = destination.0;
-    i * (m * ENTRY_WORDS) + d * ENTRY_WORDS
-}
-
-fn all_ones(a: u32, b: u32, c: u32, d: u32, t: u32) -> bool
-    ensures { result ≡ all_are ones (a ∷ b ∷ c ∷ d ∷ t ∷ []) }
-{
-    if a != ONES {
-        return false;
-    }
-    if b != ONES {
-        return false;
-    }
-    if c != ONES {
-        return false;
-    }
-    if d != ONES {
-        return false;
-    }
-    t == ONES
+    node.0 * (m * ENTRY_WORDS) + destination.0 * ENTRY_WORDS
 }
 
 // The entry of a node and a destination, in a table that has passed its check.
@@ -52,7 +31,7 @@ pub fn look_up(s: &[u32], m: usize, node: Node, destination: Destination) -> Ent
     let third = s[at + 2];
     let fourth = s[at + 3];
     let t = s[at + 4];
-    if all_ones(first, second, third, fourth, t) {
+    if words::all_ones(&[first, second, third, fourth, t]) {
         return Entry::Empty;
     }
     Entry::Mapped {
@@ -117,16 +96,15 @@ pub fn write_at(s: &mut [u32], at: usize, e: Entry)
         t,
     } = e
     else {
-        s[at] = ONES;
-        s[at + 1] = ONES;
-        s[at + 2] = ONES;
-        s[at + 3] = ONES;
-        s[at + 4] = ONES;
+        s[at..at + ENTRY_WORDS].fill(ONES);
         return;
     };
-    s[at] = first;
-    s[at + 1] = second;
-    s[at + 2] = third;
-    s[at + 3] = fourth;
-    s[at + 4] = t;
+    let w = Weight::Route {
+        first,
+        second,
+        third,
+        fourth,
+    };
+    words::write_at(s, at, w);
+    s[at + WEIGHT_WORDS] = t;
 }

@@ -1,65 +1,61 @@
 -- Texts put piece after piece are the pieces and lines of the definitions.
-use Prim.Native.Nat.{ℕ, zero, suc, ◌+◌, ◌≤◌}
+use Prim.Native.Nat.{ℕ, ◌+◌, ◌*◌, ◌≤◌, ◌<◌}
 use mathlib.Core.Path.{◌≡◌, refl, sym, ap, ◌∙◌}
-use mathlib.Core.Bool.{Bool, cond}
 use mathlib.Core.List.{List, [], ◌∷◌, ◌++◌, append_assoc, append-nil}
-use native.Mathlib.Numerals.{add-one, towards_suc}
 use native.Mathlib.Omega.{arith}
-use borrow.Author.Tests.{eq-eqb, ne_eqb}
-use lib.Dec.{ltb}
-use lib.ListN.{length, take, set}
-use lib.Seq.{sets, length-sets}
-use Rattle.refusals.specs.declared.Told.{Told}
+use borrow.Author.Tests.{ne_eqb}
+use borrow.Rule.Slice.PartMut.{put_mid}
+use lib.ListN.{length, get_or, take, set}
+use lib.Seq.{length-sets, take_all}
+use Rattle.std.proofs.lemmas.List.{take_more}
+use Rattle.words.proofs.Writing.{put_mid_is}
 use Rattle.weights.specs.Weights.{Weight}
 use Rattle.modes.specs.Entries.{Entry}
-use Rattle.decimals.specs.Digits.{decimal}
 use Rattle.decimals.specs.Texts.{Put}
 use Rattle.decimals.proofs.Putting.{put_none, put_byte, put_then, put_as}
-use Rattle.texts.specs.Lines.{space_byte, feed_byte, dash_byte, word_laws, word_refused, field, spaced, missing, weight_text, outside_text, entry_text, bit, laws_line, route_line, entry_line, refused_line}
+use Rattle.texts.specs.Lines.{feed_byte, field, spaced, weight_text, outside_text, entry_text, route_line, entry_line}
 
 -- ---- pieces
-
--- a number after a space
-pub put_spaced : (x : ℕ) {s s' : List ℕ} {at end : ℕ} → Put 10 (set s at space_byte) (at + 1) (decimal x) s' end → Put 11 s at (field x) s' end
-put_spaced x {s = s} {at = at} p = put_then (put_byte s at space_byte) p
 
 -- no text, with any bound
 pub put_nothing : (k : ℕ) (s : List ℕ) (at : ℕ) → Put k s at [] s at
 put_nothing k s at = put_as (put_none s at) refl (omega arith)
 
--- bytes that straight-line code stores
-stored : (s : List ℕ) (at k : ℕ) (bytes s' : List ℕ) → s' ≡ sets s at bytes → length bytes ≡ k → Put k s at bytes s' (at + k)
-stored s at k bytes s' e h = record { holds = e; ends = omega (arith, h); near = omega arith; long = ap length e ∙ length-sets s at bytes }
+-- bytes copied over a part of the buffer
+pub put_bytes : (s part bytes : List ℕ) (at k : ℕ) → part ≡ bytes → k ≡ length bytes → at + length bytes ≤ length s
+    → Put (length bytes) s at bytes (put_mid at k s part) (at + length bytes)
+put_bytes s part bytes at k e q h =
+    let holds = put_mid_is s part bytes at k e q h in
+    record { holds = holds; ends = refl; near = omega arith; long = ap length holds ∙ length-sets s at bytes }
 
-pub put_missing : (s : List ℕ) (at : ℕ) → Put 2 s at missing (set (set s at space_byte) (at + 1) dash_byte) (at + 2)
-put_missing s at = stored s at 2 missing _ (rw add-one) refl
+-- ---- numbers, each after a space
 
-four_text : (count a b c d : ℕ) → count ≤ 4
-    → cond (ltb 0 count) (field a) [] ++ (cond (ltb 1 count) (field b) [] ++ (cond (ltb 2 count) (field c) [] ++ cond (ltb 3 count) (field d) []))
-    ≡ spaced (take count (a ∷ b ∷ c ∷ d ∷ []))
-four_text zero a b c d h = refl
-four_text (suc zero) a b c d h = refl
-four_text (suc (suc zero)) a b c d h = refl
-four_text (suc (suc (suc zero))) a b c d h = refl
-four_text (suc (suc (suc (suc zero)))) a b c d h = ap (λ (z : List ℕ). field a ++ (field b ++ (field c ++ z))) (sym (append-nil (field d)))
-four_text (suc (suc (suc (suc (suc n))))) a b c d h = absurd (omega arith)
+spaced_append : (xs ys : List ℕ) → spaced (xs ++ ys) ≡ spaced xs ++ spaced ys
+spaced_append [] ys = refl
+spaced_append (x ∷ xs) ys = ap (λ (z : List ℕ). field x ++ z) (spaced_append xs ys) ∙ sym (append_assoc (field x) (spaced xs) (spaced ys))
 
--- the first count of four numbers
-pub put_four : (count a b c d : ℕ) {s₀ s₁ s₂ s₃ s₄ : List ℕ} {at e₁ e₂ e₃ e₄ : ℕ} → count ≤ 4
-    → Put 11 s₀ at (cond (ltb 0 count) (field a) []) s₁ e₁
-    → Put 11 s₁ e₁ (cond (ltb 1 count) (field b) []) s₂ e₂
-    → Put 11 s₂ e₂ (cond (ltb 2 count) (field c) []) s₃ e₃
-    → Put 11 s₃ e₃ (cond (ltb 3 count) (field d) []) s₄ e₄
-    → Put 44 s₀ at (spaced (take count (a ∷ b ∷ c ∷ d ∷ []))) s₄ e₄
-put_four count a b c d h p q r t = put_as (put_then p (put_then q (put_then r t))) (four_text count a b c d h) (omega arith)
+module _ (xs s₀ : List ℕ) (at : ℕ) where
+  -- the first i of them stand from at on
+  abbrev pub Spaced : ℕ → List ℕ → ℕ → Type 0
+  Spaced i s end = Put (i * 11) s₀ at (spaced (take i xs)) s end
+
+  pub spaced_none : Spaced 0 s₀ at
+  spaced_none = put_none s₀ at
+
+  pub spaced_more : (i : ℕ) {s₁ s₂ : List ℕ} {e₁ e₂ : ℕ} → i < length xs → Spaced i s₁ e₁ → Put 11 s₁ e₁ (field (get_or xs i 0)) s₂ e₂ → Spaced (i + 1) s₂ e₂
+  spaced_more i h p q =
+      let x = get_or xs i 0 in
+      let e : spaced (take (i + 1) xs) ≡ spaced (take i xs) ++ field x = ap spaced (take_more xs i 0 h) ∙ spaced_append (take i xs) (x ∷ []) ∙ ap (λ (z : List ℕ). spaced (take i xs) ++ z) (append-nil (field x)) in
+      put_as (put_then p q) (sym e) (omega arith)
+
+  pub spaced_all : (i k : ℕ) {s : List ℕ} {end : ℕ} → length xs ≤ i → i ≤ k → Spaced i s end → Put (k * 11) s₀ at (spaced xs) s end
+  spaced_all i k long few p = put_as p (ap spaced (take_all i xs long)) (omega arith)
 
 -- t after them, but in plain mode
-module _ (mode t : ℕ) (xs : List ℕ) {s₀ s₁ : List ℕ} {at e₁ : ℕ} (p : Put 44 s₀ at (spaced xs) s₁ e₁) where
-  pub put_plain : mode ≡ 1 → Put 55 s₀ at (spaced xs ++ outside_text mode t) s₁ e₁
-  put_plain e = rw (eq-eqb mode 1 e) (put_as p (sym (append-nil (spaced xs))) (omega arith))
-
-  pub put_outside : {s₂ : List ℕ} {e₂ : ℕ} → (mode ≡ 1 → ⊥) → Put 11 s₁ e₁ (field t) s₂ e₂ → Put 55 s₀ at (spaced xs ++ outside_text mode t) s₂ e₂
-  put_outside e q = rw (ne_eqb mode 1 e) (put_then p q)
+pub put_outside : (mode t : ℕ) (xs : List ℕ) {s₀ s₁ s₂ : List ℕ} {at e₁ e₂ : ℕ}
+    → Put 44 s₀ at (spaced xs) s₁ e₁ → (mode ≡ 1 → ⊥) → Put 11 s₁ e₁ (field t) s₂ e₂
+    → Put 55 s₀ at (spaced xs ++ outside_text mode t) s₂ e₂
+put_outside mode t xs p e q = rw (ne_eqb mode 1 e) (put_then p q)
 
 -- ---- lines
 
@@ -99,18 +95,3 @@ pub put_three : (x y z : ℕ) {s₀ s₁ s₂ s₃ : List ℕ} {at e₁ e₂ e�
     → Put 34 s₀ at (spaced (x ∷ y ∷ z ∷ []) ++ (feed_byte ∷ [])) (set s₃ e₃ feed_byte) (e₃ + 1)
 put_three x y z {s₃ = s₃} {e₃ = e₃} p q r =
     put_as (put_then p (put_then q (put_then r (put_byte s₃ e₃ feed_byte)))) (three_text (field x) (field y) (field z) (feed_byte ∷ [])) (omega arith)
-
--- the word, as it is stored
-pub put_refused : (t : Told) (s s' : List ℕ) {at end : ℕ}
-    → Put 34 (set (set (set (set (set (set (set s at 82) (at + 1) 69) (at + 2) 70) (at + 3) 85) (at + 4) 83) (at + 5) 69) (at + 6) 68) (at + 7)
-    (spaced (t.number ∷ t.which ∷ t.place ∷ []) ++ (feed_byte ∷ [])) s' end
-    → Put 41 s at (refused_line t) s' end
-unfolding refused_line
-put_refused t s s' {at = at} p = put_then (stored s at 7 word_refused _ (simp towards_suc) refl) p
-
-pub put_laws : (d u c : Bool) (s s' : List ℕ) {at end : ℕ}
-    → Put 34 (set (set (set (set s at 76) (at + 1) 65) (at + 2) 87) (at + 3) 83) (at + 4)
-    (spaced (bit d ∷ bit u ∷ bit c ∷ []) ++ (feed_byte ∷ [])) s' end
-    → Put 38 s at (laws_line d u c) s' end
-unfolding laws_line
-put_laws d u c s s' {at = at} p = put_then (stored s at 4 word_laws _ (simp towards_suc) refl) p

@@ -32,9 +32,6 @@ module _ (k : ℕ) (f : ℕ → List ℕ) (s₀ : List ℕ) (at : ℕ) where
   pub grown_more : (i : ℕ) {s₁ s₂ : List ℕ} {e₁ e₂ : ℕ} → Grown i s₁ e₁ → Put k s₁ e₁ (f i) s₂ e₂ → Grown (i + 1) s₂ e₂
   grown_more i p q = put_as (put_then p q) (sym (blocks_suc f i)) (omega (arith, suc-mul i k, ap (λ (z : ℕ). z * k) (add-one i)))
 
-  pub grown_all : (i n : ℕ) {s : List ℕ} {end : ℕ} → Grown i s end → i ≡ n → Grown n s end
-  grown_all i n p e = rw (← e) p
-
 -- ---- of four places, those of the language
 
 take_less : (k m : ℕ) (xs : List ℕ) → k ≤ m → take k (take m xs) ≡ take k xs

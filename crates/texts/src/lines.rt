@@ -11,14 +11,6 @@ use modes::Entry;
 use refusals::Told;
 use weights::Weight;
 
-// The byte that ends a line.
-const FEED: u8 = 10;
-
-// The letter of a route's line, and of a forwarding entry's.
-const LETTER_R: u8 = 82;
-
-const LETTER_F: u8 = 70;
-
 // Puts a letter and two fields.
 fn put_letter(letter: u8, x: u32, y: u32, at: usize, out: &mut [u8]) -> usize
     requires { at + 23 ≤ length out.old }
@@ -34,9 +26,9 @@ pub fn put_route_line(count: u32, i: u32, j: u32, w: Weight, at: usize, out: &mu
     requires { (at + 68 ≤ length out.old) × (count ≤ 4) }
     ensures { Put 68 out.old at (route_line i j (first_values count (weight_of w))) out.new result }
 {
-    let two = put_letter(LETTER_R, i, j, at, out);
+    let two = put_letter(b'R', i, j, at, out);
     let end = put_weight(count, w, two, out);
-    out[end] = FEED;
+    out[end] = b'\n';
     end + 1
 }
 
@@ -53,9 +45,9 @@ pub fn put_entry_line(
     requires { (at + 79 ≤ length out.old) × (count ≤ 4) }
     ensures { Put 79 out.old at (entry_line mode i d (first_of_entry count (entry_of e))) out.new result }
 {
-    let two = put_letter(LETTER_F, i, d, at, out);
+    let two = put_letter(b'F', i, d, at, out);
     let end = put_entry(count, mode, e, two, out);
-    out[end] = FEED;
+    out[end] = b'\n';
     end + 1
 }
 
@@ -67,7 +59,7 @@ fn put_three(x: u32, y: u32, z: u32, at: usize, out: &mut [u8]) -> usize
     let one = put_field(x, at, out);
     let two = put_field(y, one, out);
     let end = put_field(z, two, out);
-    out[end] = FEED;
+    out[end] = b'\n';
     end + 1
 }
 
@@ -76,13 +68,7 @@ pub fn put_refused_line(t: Told, at: usize, out: &mut [u8]) -> usize
     requires { at + 41 ≤ length out.old }
     ensures { Put 41 out.old at (refused_line t) out.new result }
 {
-    out[at] = 82;
-    out[at + 1] = 69;
-    out[at + 2] = 70;
-    out[at + 3] = 85;
-    out[at + 4] = 83;
-    out[at + 5] = 69;
-    out[at + 6] = 68;
+    out[at..at + 7].copy_from_slice(b"REFUSED");
     put_three(t.number, t.which, t.place, at + 7, out)
 }
 
@@ -91,9 +77,6 @@ pub fn put_laws_line(d: bool, u: bool, c: bool, at: usize, out: &mut [u8]) -> us
     requires { at + 38 ≤ length out.old }
     ensures { Put 38 out.old at (laws_line d u c) out.new result }
 {
-    out[at] = 76;
-    out[at + 1] = 65;
-    out[at + 2] = 87;
-    out[at + 3] = 83;
+    out[at..at + 4].copy_from_slice(b"LAWS");
     put_three(d as u32, u as u32, c as u32, at + 4, out)
 }

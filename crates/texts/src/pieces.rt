@@ -10,11 +10,6 @@ use decimals::put_number;
 use modes::Entry;
 use weights::Weight;
 
-// The bytes of a space and of "-".
-const SPACE: u8 = 32;
-
-const DASH: u8 = 45;
-
 // The mode in which t is omitted.
 const PLAIN: u32 = 1;
 
@@ -23,19 +18,8 @@ pub fn put_field(x: u32, at: usize, out: &mut [u8]) -> usize
     requires { at + 11 ≤ length out.old }
     ensures { Put 11 out.old at (field x) out.new result }
 {
-    out[at] = SPACE;
+    out[at] = b' ';
     put_number(x, at + 1, out)
-}
-
-// The same where there is such a field.
-fn put_field_if(there: bool, x: u32, at: usize, out: &mut [u8]) -> usize
-    requires { at + 11 ≤ length out.old }
-    ensures { Put 11 out.old at (cond there (field x) []) out.new result }
-{
-    if there {
-        return put_field(x, at, out);
-    }
-    at
 }
 
 // Puts "-" for no route or empty.
@@ -43,8 +27,7 @@ fn put_missing(at: usize, out: &mut [u8]) -> usize
     requires { at + 2 ≤ length out.old }
     ensures { Put 2 out.old at missing out.new result }
 {
-    out[at] = SPACE;
-    out[at + 1] = DASH;
+    out[at..at + 2].copy_from_slice(b" -");
     at + 2
 }
 
@@ -61,10 +44,11 @@ fn put_values(
     requires { (at + 44 ≤ length out.old) × (count ≤ 4) }
     ensures { Put 44 out.old at (spaced (take count (first ∷ second ∷ third ∷ fourth ∷ []))) out.new result }
 {
-    let one = put_field_if(0 < count, first, at, out);
-    let two = put_field_if(1 < count, second, one, out);
-    let three = put_field_if(2 < count, third, two, out);
-    put_field_if(3 < count, fourth, three, out)
+    let mut end = at;
+    for x in &[first, second, third, fourth][..count as usize] {
+        end = put_field(*x, end, out);
+    }
+    end
 }
 
 // Puts a weight's components.
@@ -78,12 +62,8 @@ pub fn put_weight(count: u32, w: Weight, at: usize, out: &mut [u8]) -> usize
             second,
             third,
             fourth,
-        } => {
-            return put_values(count, first, second, third, fourth, at, out);
-        }
-        Weight::NoRoute => {
-            return put_missing(at, out);
-        }
+        } => put_values(count, first, second, third, fourth, at, out),
+        Weight::NoRoute => put_missing(at, out),
     }
 }
 
@@ -102,12 +82,11 @@ pub fn put_entry(count: u32, mode: u32, e: Entry, at: usize, out: &mut [u8]) -> 
         } => {
             let end = put_values(count, first, second, third, fourth, at, out);
             if mode == PLAIN {
-                return end;
+                end
+            } else {
+                put_field(t, end, out)
             }
-            return put_field(t, end, out);
         }
-        Entry::Empty => {
-            return put_missing(at, out);
-        }
+        Entry::Empty => put_missing(at, out),
     }
 }

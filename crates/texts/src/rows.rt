@@ -1,4 +1,5 @@
 // The lines of a matrix and of a forwarding table, by rows.
+// Four loops, and not one that is given what to put: what it asks of each call would be longer than the four.
 ghost use Rattle.std.specs.Prelude.{◌+◌, ◌*◌, ◌≤◌, ◌<◌, length};
 ghost use Rattle.weights.specs.Sizes.{places};
 ghost use Rattle.matrices.specs.Buffers.{matrix_in, Square};

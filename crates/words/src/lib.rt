@@ -8,58 +8,38 @@ ghost use Rattle.weights.specs.Languages.{places_of};
 ghost use Rattle.weights.specs.Values.{weight_of};
 ghost use Rattle.weights.specs.Words.{words, all_are, in_range, fits, reading, read_of, decoded};
 
-use weights::{Component, ONES, Places, Weight};
+use weights::{Component, ONES, Places, WEIGHT_WORDS, Weight};
 
 pub fn in_range(c: Component, cap: u32, v: u32) -> bool
     ensures { result ≡ in_range cap c v }
 {
     match c {
-        Component::Dist => v <= cap,
-        Component::Width(w) => if 1 <= v { v <= w as u32 } else { false },
+        Component::Dist | Component::Gain => v <= cap,
+        Component::Width(w) => 1 <= v && v <= w as u32,
         Component::Class(k) => v <= k as u32,
-        Component::Gain => v <= cap,
     }
 }
 
-fn all_ones(a: u32, b: u32, c: u32, d: u32) -> bool
-    ensures { result ≡ all_are ones (a ∷ b ∷ c ∷ d ∷ []) }
+// Every word is ones.
+pub fn all_ones(s: &[u32]) -> bool
+    ensures { result ≡ all_are ones s.now }
 {
-    if a != ONES {
-        return false;
-    }
-    if b != ONES {
-        return false;
-    }
-    if c != ONES {
-        return false;
-    }
-    if d != ONES {
-        return false;
-    }
-    true
+    s.iter().all(|word| *word == ONES)
 }
 
 fn all_in_range(p: Places, cap: u32, a: u32, b: u32, c: u32, d: u32) -> bool
     ensures { result ≡ fits cap (places_of p) (a ∷ b ∷ c ∷ d ∷ []) }
 {
-    let one = p.first;
-    let two = p.second;
-    let three = p.third;
-    let four = p.fourth;
-    if in_range(one, cap, a) {
-        if in_range(two, cap, b) {
-            if in_range(three, cap, c) {
-                return in_range(four, cap, d);
-            }
-        }
-    }
-    false
+    in_range(p.first, cap, a)
+        && in_range(p.second, cap, b)
+        && in_range(p.third, cap, c)
+        && in_range(p.fourth, cap, d)
 }
 
 fn read_words(p: Places, cap: u32, a: u32, b: u32, c: u32, d: u32) -> Option<Weight>
     ensures { read_of result ≡ reading cap (places_of p) (a ∷ b ∷ c ∷ d ∷ []) }
 {
-    if all_ones(a, b, c, d) {
+    if all_ones(&[a, b, c, d]) {
         return Some(Weight::NoRoute);
     }
     if all_in_range(p, cap, a, b, c, d) {
@@ -90,18 +70,19 @@ pub fn weight_at(s: &[u32], at: usize) -> Weight
     requires { at + weight_words ≤ length s.now }
     ensures { weight_of result ≡ decoded places (take weight_words (drop at s.now)) }
 {
-    let a = s[at];
-    let b = s[at + 1];
-    let c = s[at + 2];
-    let d = s[at + 3];
-    if all_ones(a, b, c, d) {
+    // All four before the test: a test of the slice, which loads them in turn, was tried, and slower.
+    let first = s[at];
+    let second = s[at + 1];
+    let third = s[at + 2];
+    let fourth = s[at + 3];
+    if all_ones(&[first, second, third, fourth]) {
         return Weight::NoRoute;
     }
     Weight::Route {
-        first: a,
-        second: b,
-        third: c,
-        fourth: d,
+        first,
+        second,
+        third,
+        fourth,
     }
 }
 
@@ -111,20 +92,18 @@ pub fn write_at(s: &mut [u32], at: usize, w: Weight)
     ensures { s.new ≡ sets s.old at (words (weight_of w)) }
 {
     let Weight::Route {
-        first: a,
-        second: b,
-        third: c,
-        fourth: d,
+        first,
+        second,
+        third,
+        fourth,
     } = w
     else {
-        s[at] = ONES;
-        s[at + 1] = ONES;
-        s[at + 2] = ONES;
-        s[at + 3] = ONES;
+        s[at..at + WEIGHT_WORDS].fill(ONES);
         return;
     };
-    s[at] = a;
-    s[at + 1] = b;
-    s[at + 2] = c;
-    s[at + 3] = d;
+    // One by one: copy_from_slice was tried, and slower.
+    s[at] = first;
+    s[at + 1] = second;
+    s[at + 2] = third;
+    s[at + 3] = fourth;
 }

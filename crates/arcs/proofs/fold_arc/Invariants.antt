@@ -1,5 +1,4 @@
-use Prim.Native.Nat.{ℕ, ◌*◌, ◌-◌, ◌≤◌}
-use mathlib.Core.Path.{◌≡◌}
+use Prim.Native.Nat.{ℕ}
 use mathlib.Core.List.{List}
 use Rattle.weights.specs.declared.PerPlace.{PerPlace}
 use Rattle.weights.specs.declared.Component.{Component}
@@ -17,7 +16,4 @@ abbrev pub block : PerPlace Component → declared.Weight → List ℕ → ℕ �
 block p x r n k s j = words (folded (places_of p) (weight_of x) (matrix_in places n r k) (row_in places s) j)
 
 abbrev pub invariant-loop-j : goal.invariant-loop-j
-invariant-loop-j l = (l.j ≤ l.n) × (l.from ≡ l.k * (l.n * weight_words)) × Filled weight_words (block l.p l.x l.r l.n l.k l.initial.row) l.initial.row l.j l.row
-
-abbrev pub decreases-loop-j : goal.decreases-loop-j
-decreases-loop-j l = l.n - l.j
+invariant-loop-j l = Filled weight_words (block l.p l.x l.r l.n l.k l.initial.row) l.initial.row l.j l.row

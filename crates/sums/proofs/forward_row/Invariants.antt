@@ -1,4 +1,4 @@
-use Prim.Native.Nat.{ℕ, ◌-◌, ◌≤◌}
+use Prim.Native.Nat.{ℕ}
 use mathlib.Core.List.{List}
 use Rattle.algebra.specs.Modes.{forwarded}
 use Rattle.weights.specs.Languages.{places_of}
@@ -17,7 +17,4 @@ abbrev pub block : PerPlace Component → Mode → ℕ → ℕ → List ℕ → 
 block p mode n m r s i d = words_of (forwarded (language (places_of p)) (mode_of mode (places_of p)) n (matrix_in places n r) (table_in places m s) i d)
 
 abbrev pub invariant-loop-d : goal.invariant-loop-d
-invariant-loop-d l = (l.d ≤ l.m) × Filled entry_words (block l.p l.mode l.n l.m l.r l.s l.i) l.initial.row l.d l.row
-
-abbrev pub decreases-loop-d : goal.decreases-loop-d
-decreases-loop-d l = l.m - l.d
+invariant-loop-d l = Filled entry_words (block l.p l.mode l.n l.m l.r l.s l.node.0) l.initial.row l.d l.row

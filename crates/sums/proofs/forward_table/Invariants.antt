@@ -1,4 +1,4 @@
-use Prim.Native.Nat.{ℕ, ◌*◌, ◌-◌, ◌≤◌}
+use Prim.Native.Nat.{ℕ, ◌*◌}
 use mathlib.Core.List.{List}
 use Rattle.algebra.specs.Modes.{forwarded}
 use Rattle.weights.specs.Languages.{places_of}
@@ -17,7 +17,4 @@ abbrev pub row : PerPlace Component → Mode → ℕ → ℕ → List ℕ → Li
 row p mode n m r s i = table_row_words m (forwarded (language (places_of p)) (mode_of mode (places_of p)) n (matrix_in places n r) (table_in places m s) i)
 
 abbrev pub invariant-loop-i : goal.invariant-loop-i
-invariant-loop-i l = (l.i ≤ l.n) × Filled (l.m * entry_words) (row l.p l.mode l.n l.m l.r l.s) l.initial.f l.i l.f
-
-abbrev pub decreases-loop-i : goal.decreases-loop-i
-decreases-loop-i l = l.n - l.i
+invariant-loop-i l = Filled (l.m * entry_words) (row l.p l.mode l.n l.m l.r l.s) l.initial.f l.i l.f

@@ -11,14 +11,5 @@ use Rattle.sums.proofs.take_node.Goals as goal
 pub returns-in_default : goal.returns-in_default
 returns-in_default c = let a = c.args in rw c.in_default.is (left_out a.mode (places_of a.p) (entry_of a.e) (table_in places a.m a.s.now a.k.0 a.d.0))
 
-pub loses-requires : goal.loses-requires
-loses-requires c = (c.requires.1, rw c.look_up-y.ensures c.requires.2)
-
 pub returns-then-loses : goal.returns-then-loses
 returns-then-loses c = let a = c.args in rw (sym c.look_up-y.ensures) (loses_keeps a.mode (places_of a.p) (entry_of a.e) (weight_of a.x) _ (sym c.loses.ensures ∙ c.if-loses.true))
-
-pub apply-z-requires : goal.apply-z-requires
-apply-z-requires c = (c.requires.1, rw c.look_up-y.ensures c.requires.2)
-
-pub returns : goal.returns
-returns c = c.better_of.ensures ∙ rw (c.apply-z.ensures, c.look_up-y.ensures)

@@ -1,17 +1,16 @@
-use borrow.Author.Tests.{eq-eqb, ne_eqb}
+use Rattle.std.proofs.Common.{◌≡◌, ℕ, ◌&&◌, eqb, List, [], ◌∷◌, refl, ap, ◌∙◌, rules, tests}
+use Rattle.std.specs.List.{list_all}
+use Rattle.std.proofs.lemmas.Iterator.{YieldsList-from_slice}
+use Rattle.std.proofs.lemmas.Iterator.Search.{all_from_yields_List}
+use Rattle.weights.specs.Sizes.{ones}
+use Rattle.weights.specs.Words.{all_are}
 use Rattle.words.proofs.all_ones.Goals as goal
 
-pub returns-then-a-ne-ONES : goal.returns-then-a-ne-ONES
-returns-then-a-ne-ONES c = simp (ne_eqb _ _ c.if-a-ne-ONES.true)
-
-pub returns-then-b-ne-ONES : goal.returns-then-b-ne-ONES
-returns-then-b-ne-ONES c = simp (eq-eqb _ _ c.if-a-ne-ONES.false, ne_eqb _ _ c.if-b-ne-ONES.true)
-
-pub returns-then-c-ne-ONES : goal.returns-then-c-ne-ONES
-returns-then-c-ne-ONES c = simp (eq-eqb _ _ c.if-a-ne-ONES.false, eq-eqb _ _ c.if-b-ne-ONES.false, ne_eqb _ _ c.if-c-ne-ONES.true)
-
-pub returns-then-d-ne-ONES : goal.returns-then-d-ne-ONES
-returns-then-d-ne-ONES c = simp (eq-eqb _ _ c.if-a-ne-ONES.false, eq-eqb _ _ c.if-b-ne-ONES.false, eq-eqb _ _ c.if-c-ne-ONES.false, ne_eqb _ _ c.if-d-ne-ONES.true)
+all_are_is : (w : ℕ) (s : List ℕ) → list_all (λ x. eqb x w) s ≡ all_are w s
+all_are_is w [] = refl
+all_are_is w (x ∷ s) = ap (λ b. eqb x w && b) (all_are_is w s)
 
 pub returns : goal.returns
-returns c = simp (eq-eqb _ _ c.if-a-ne-ONES.false, eq-eqb _ _ c.if-b-ne-ONES.false, eq-eqb _ _ c.if-c-ne-ONES.false, eq-eqb _ _ c.if-d-ne-ONES.false)
+returns c =
+    let s = c.args.s.now in
+    all_from_yields_List (λ x. eqb x ones) _ _ _ c.all.ensures.ran (YieldsList-from_slice s cc) (λ x b q k. search (rules, tests)) ∙ all_are_is ones s

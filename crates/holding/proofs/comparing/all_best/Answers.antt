@@ -1,29 +1,25 @@
 use Prim.Native.Nat.{ℕ}
-use mathlib.Core.Path.{◌≡◌, sym, ap, ◌∙◌}
-use native.Mathlib.Omega.{arith}
-use Rattle.matrices.specs.Steps.{every}
-use Rattle.matrices.proofs.Every.{every_none, every_more, every_false}
+use borrow.Author.Rules.{rules}
+use mathlib.Core.List.{List}
+use Rattle.weights.specs.declared.Component.{Component}
+use Rattle.weights.specs.declared.PerPlace.{PerPlace}
+use mathlib.Core.Path.{◌∙◌}
+use Rattle.algebra.specs.Best.{best}
+use Rattle.weights.specs.Sizes.{places}
+use Rattle.weights.specs.Weights.{language}
+use Rattle.weights.specs.Languages.{places_of}
+use Rattle.matrices.specs.Buffers.{matrix_in}
+use Rattle.matrices.specs.Steps.{Matrix}
+use Rattle.matrices.proofs.Every.{all_every}
 use Rattle.holding.specs.Holding.{column_has}
 use Rattle.holding.proofs.Words.{all_words}
-use Rattle.holding.proofs.comparing.all_best.Invariants.{bests}
 use Rattle.holding.proofs.comparing.all_best.Goals as goal
 
-pub loop-j-init : goal.loop-j-init
-loop-j-init c = (omega arith, every_none _)
-
-pub column_best-requires : goal.column_best-requires
-column_best-requires c = (c.requires.0, c.requires.1, c.loop-j-test.true)
-
-pub returns-then-not-column_best : goal.returns-then-not-column_best
-returns-then-not-column_best c = let a = c.args in sym (sym (all_words a.n a.s.now c.requires.1 (bests a.p a.n a.a.now))
-    ∙ every_false (column_has a.n a.s.now (bests a.p a.n a.a.now)) a.n c.loop-j.j c.loop-j-test.true (sym c.column_best.ensures ∙ c.if-not-column_best.true))
-
-pub overflow_add-j : goal.overflow_add-j
-overflow_add-j c = let f = c.requires.1.few in omega arith
-
-pub loop-j-preserved : goal.loop-j-preserved
-loop-j-preserved c = let a = c.args in (omega arith, every_more (column_has a.n a.s.now (bests a.p a.n a.a.now)) c.loop-j.j c.loop-j.invariant.1 (sym c.column_best.ensures ∙ c.if-not-column_best.false))
+-- the best weights of an n x n matrix of arcs in a buffer
+abbrev bests : PerPlace Component → ℕ → List ℕ → Matrix
+bests p n a = best (language (places_of p)) n (matrix_in places n a)
 
 pub returns : goal.returns
-returns c = let a = c.args in let e : c.loop-j.j ≡ a.n = omega arith in
-    sym (sym (all_words a.n a.s.now c.requires.1 (bests a.p a.n a.a.now)) ∙ ap (λ (m : ℕ). every m (column_has a.n a.s.now (bests a.p a.n a.a.now))) (sym e) ∙ c.loop-j.invariant.1)
+returns c =
+    all_every (column_has c.args.n c.args.s.now (bests c.args.p c.args.n c.args.a.now)) c.args.n _ _ _ c.all.ensures.ran (λ x b q k. search rules)
+    ∙ all_words c.args.n c.args.s.now c.requires.1 (bests c.args.p c.args.n c.args.a.now)

@@ -1,4 +1,4 @@
-use Prim.Native.Nat.{ℕ, ◌*◌, ◌-◌, ◌≤◌}
+use Prim.Native.Nat.{ℕ, ◌*◌}
 use mathlib.Core.List.{List}
 use Rattle.algebra.specs.Step.{fresh}
 use Rattle.weights.specs.declared.PerPlace.{PerPlace}
@@ -14,7 +14,4 @@ abbrev pub row : PerPlace Component → ℕ → ℕ → List ℕ
 row p n i = row_words n (fresh (language (places_of p)) i)
 
 abbrev pub invariant-loop-i : goal.invariant-loop-i
-invariant-loop-i l = (l.i ≤ l.n) × Filled (l.n * weight_words) (row l.p l.n) l.initial.r l.i l.r
-
-abbrev pub decreases-loop-i : goal.decreases-loop-i
-decreases-loop-i l = l.n - l.i
+invariant-loop-i l = Filled (l.n * weight_words) (row l.p l.n) l.initial.r l.i l.r

@@ -1,4 +1,4 @@
-use Prim.Native.Nat.{ℕ, ◌-◌, ◌≤◌}
+use Prim.Native.Nat.{ℕ}
 use mathlib.Core.List.{List}
 use Rattle.algebra.specs.Step.{fresh}
 use Rattle.weights.specs.declared.PerPlace.{PerPlace}
@@ -14,7 +14,4 @@ abbrev pub block : PerPlace Component → ℕ → ℕ → List ℕ
 block p i j = words (fresh (language (places_of p)) i j)
 
 abbrev pub invariant-loop-j : goal.invariant-loop-j
-invariant-loop-j l = (l.j ≤ l.n) × Filled weight_words (block l.p l.i) l.initial.row l.j l.row
-
-abbrev pub decreases-loop-j : goal.decreases-loop-j
-decreases-loop-j l = l.n - l.j
+invariant-loop-j l = Filled weight_words (block l.p l.i) l.initial.row l.j l.row

@@ -1,28 +1,9 @@
 use native.Mathlib.Omega.{arith}
-use lib.ListN.{length-set}
-use Rattle.texts.proofs.Composing.{put_refused}
+use Rattle.decimals.proofs.Putting.{put_then}
+use Rattle.texts.specs.Lines.{word_refused, refused_line}
+use Rattle.texts.proofs.Composing.{put_bytes}
 use Rattle.texts.proofs.lines.put_refused_line.Goals as goal
 
-pub bounds-out-at-2 : goal.bounds-out-at-2
-bounds-out-at-2 c = simp length-set (omega arith)
-
-pub bounds-out-at-3 : goal.bounds-out-at-3
-bounds-out-at-3 c = simp length-set (omega arith)
-
-pub bounds-out-at-4 : goal.bounds-out-at-4
-bounds-out-at-4 c = simp length-set (omega arith)
-
-pub bounds-out-at-5 : goal.bounds-out-at-5
-bounds-out-at-5 c = simp length-set (omega arith)
-
-pub bounds-out-at-6 : goal.bounds-out-at-6
-bounds-out-at-6 c = simp length-set (omega arith)
-
-pub bounds-out-at-7 : goal.bounds-out-at-7
-bounds-out-at-7 c = simp length-set (omega arith)
-
-pub put_three-requires : goal.put_three-requires
-put_three-requires c = simp length-set (omega arith)
-
 pub returns : goal.returns
-returns c = put_refused c.args.t c.args.out.now _ c.put_three.ensures
+unfolding refused_line
+returns c = put_then (put_bytes _ _ word_refused _ _ c.copy_from_slice.ensures.after (omega arith) (omega arith)) c.put_three.ensures

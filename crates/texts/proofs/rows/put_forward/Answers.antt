@@ -1,13 +1,9 @@
 use mathlib.Core.Path.{ap}
 use native.Mathlib.Omega.{arith}
-use Rattle.tables.proofs.Rooms.{in_table}
 use Rattle.decimals.proofs.Putting.{put_as}
 use Rattle.texts.specs.Lines.{entry_line}
 use Rattle.texts.proofs.Growing.{first_table}
 use Rattle.texts.proofs.rows.put_forward.Goals as goal
-
-pub look_up-e-requires : goal.look_up-e-requires
-look_up-e-requires c = in_table c.args.n c.args.m c.args.f.now c.requires.0 c.args.i c.args.d c.requires.1 c.requires.2
 
 pub returns : goal.returns
 returns c = let e = first_table c.args.count c.args.m c.args.i c.args.d c.args.f.now _ c.requires.3 c.look_up-e.ensures in

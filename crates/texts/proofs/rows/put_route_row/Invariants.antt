@@ -1,4 +1,4 @@
-use Prim.Native.Nat.{ℕ, ◌-◌, ◌≤◌}
+use Prim.Native.Nat.{ℕ}
 use mathlib.Core.List.{List}
 use Rattle.matrices.specs.Buffers.{matrix_in}
 use Rattle.texts.specs.Lines.{route_line}
@@ -10,7 +10,4 @@ abbrev pub line : ℕ → ℕ → ℕ → List ℕ → ℕ → List ℕ
 line count n i r j = route_line i j (matrix_in count n r i j)
 
 abbrev pub invariant-loop-j : goal.invariant-loop-j
-invariant-loop-j l = (l.j ≤ l.n) × Grown 68 (line l.count l.n l.i l.r) l.initial.out l.at l.j l.out l.end
-
-abbrev pub decreases-loop-j : goal.decreases-loop-j
-decreases-loop-j l = l.n - l.j
+invariant-loop-j l = Grown 68 (line l.count l.n l.i l.r) l.initial.out l.at l.j l.out l.end

@@ -1,4 +1,4 @@
-use Prim.Native.Nat.{ℕ, ◌*◌, ◌-◌, ◌≤◌}
+use Prim.Native.Nat.{ℕ, ◌*◌}
 use mathlib.Core.List.{List}
 use Rattle.matrices.specs.Buffers.{matrix_in}
 use Rattle.texts.specs.Lines.{route_row}
@@ -10,7 +10,4 @@ abbrev pub row : ℕ → ℕ → List ℕ → ℕ → List ℕ
 row count n r i = route_row n (matrix_in count n r) i
 
 abbrev pub invariant-loop-i : goal.invariant-loop-i
-invariant-loop-i l = (l.i ≤ l.n) × Grown (l.n * 68) (row l.count l.n l.r) l.initial.out l.at l.i l.out l.end
-
-abbrev pub decreases-loop-i : goal.decreases-loop-i
-decreases-loop-i l = l.n - l.i
+invariant-loop-i l = Grown (l.n * 68) (row l.count l.n l.r) l.initial.out l.at l.i l.out l.end
