@@ -14,13 +14,15 @@ use Rattle.weights.specs.Sizes.{places, product_tags}
 use Rattle.weights.specs.Weights.{Sound, SoundLimit}
 use Rattle.weights.specs.Languages.{components_of}
 use Rattle.fields.specs.declared.Found.{Found}
-use Rattle.fields.specs.declared.LanguageRead.{LanguageRead}
-use Rattle.fields.specs.declared.LanguageRead.TheVariants.{Taken}
 use Rattle.file_bytes.specs.Bytes.{two_at}
 use Rattle.fields.specs.Nested.{no_language, added, nothing, with_component, with_tag, dist_tag, width_tag, class_tag, gain_tag, product_tag, component_read, after, language_at}
 use Rattle.fields.proofs.Advancing.{read_product, read_component}
 use Rattle.encoded.specs.Encode.{Nesting, one, product, nested, bytes2, component_bytes, language_bytes, language_with}
 use Rattle.encoded.specs.Taken.{found_after}
+use Rattle.std.specs.Prelude.{Result}
+use Rattle.fields.specs.declared.Taken.{Taken}
+use Rattle.refusals.specs.declared.Refusal.{Refusal}
+use Rattle.fields.specs.Nested.{taken}
 
 pub record Here (s : List ℕ) (at x : ℕ) (l : List ℕ) : Type 0 where
   pub is : get_or s at 0 ≡ x
@@ -60,7 +62,7 @@ two_here s at v l e =
 -- ---- a component, a language
 
 pub component_here : (s : List ℕ) (at : ℕ) (f : Found) (c : Component) (l : List ℕ) → SoundLimit c → drop at s ≡ component_bytes c ++ l
-    → (component_read s at f ≡ Taken (at + length (component_bytes c)) (with_component f c)) × (at < length s) × (get_or s at 0 ≡ product_tag → ⊥)
+    → (component_read s at f ≡ taken (at + length (component_bytes c)) (with_component f c)) × (at < length s) × (get_or s at 0 ≡ product_tag → ⊥)
 unfolding component_read bytes2
 component_here s at f Dist l ok e = let a = here s at dist_tag l e in (rw a.is, a.room, λ z. omega (arith, a.is, z))
 component_here s at f Gain l ok e = let a = here s at gain_tag l e in (rw a.is, a.room, λ z. omega (arith, a.is, z))
@@ -88,7 +90,7 @@ sound_left (x ∷ xs) ys h = let r = sound_left xs ys h.1 in ((h.0, r.0), r.1)
 
 -- a language is read as it is nested
 pub language_here : (t : Nesting) (s : List ℕ) (at : ℕ) (f : Found) (l : List ℕ) → Sound (nested t) → f.tags + products t ≤ product_tags → drop at s ≡ language_bytes t ++ l
-    → language_at s at f ≡ Taken (at + length (language_bytes t)) (found_after f t)
+    → language_at s at f ≡ taken (at + length (language_bytes t)) (found_after f t)
 language_here (one c) s at f l ok few e =
     let a = component_here s at f c l ok.0 e in
     read_component s at f a.1 a.2 ∙ a.0
@@ -96,15 +98,15 @@ language_here (product x y) s at f l ok few e =
     let o = sound_left (nested x) (nested y) ok in
     let a = here s at product_tag _ e in
     let r : drop (at + 1) s ≡ language_bytes x ++ (language_bytes y ++ l) = a.rest ∙ append_assoc (language_bytes x) (language_bytes y) l in
-    let left : language_at s (at + 1) (with_tag f) ≡ Taken (at + 1 + length (language_bytes x)) (found_after (with_tag f) x) =
+    let left : language_at s (at + 1) (with_tag f) ≡ taken (at + 1 + length (language_bytes x)) (found_after (with_tag f) x) =
     language_here x s (at + 1) (with_tag f) (language_bytes y ++ l) o.0 (omega arith) r in
     let right = language_here y s (at + 1 + length (language_bytes x)) (found_after (with_tag f) x) l o.1 (omega (arith, found_tags x (with_tag f)))
     (past s (language_bytes x) (language_bytes y ++ l) (at + 1) r) in
     let q : at + 1 + length (language_bytes x) + length (language_bytes y) ≡ at + suc (length (language_bytes x ++ language_bytes y)) = omega (arith, length-append (language_bytes x) (language_bytes y)) in
     read_product s at f a.room a.is (omega arith)
-    ∙ ap (λ (z : LanguageRead). after z (language_at s)) left
+    ∙ ap (λ (z : Result Taken Refusal). after z (language_at s)) left
     ∙ right
-    ∙ ap (λ (z : ℕ). Taken z (found_after (found_after (with_tag f) x) y)) q
+    ∙ ap (λ (z : ℕ). taken z (found_after (found_after (with_tag f) x) y)) q
 
 -- ---- how products are nested makes no difference to the language
 

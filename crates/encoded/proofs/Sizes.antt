@@ -6,14 +6,14 @@ use native.Mathlib.Omega.{arith}
 use Rattle.weights.specs.declared.Language.{Language}
 use Rattle.weights.specs.Sizes.{product_tags}
 use Rattle.fields.specs.declared.Head.{Head}
-use Rattle.fields.specs.declared.HeadRead.TheVariants.{Sound}
 use Rattle.fields.specs.Nested.{nothing}
 use Rattle.fields.proofs.Advancing.{advances}
 use Rattle.files.specs.File.{file_read}
 use Rattle.encoded.specs.Taken.{InRanges}
 use Rattle.encoded.proofs.Taken.{head_at, counted_head, fields_at}
+use Rattle.fields.specs.Header.{sound_head}
 
-pub head_in_ranges : (s : List ℕ) (next : ℕ) (h : Head) → file_read s ≡ Sound next h → InRanges h
+pub head_in_ranges : (s : List ℕ) (next : ℕ) (h : Head) → file_read s ≡ sound_head next h → InRanges h
 head_in_ranges s next h e =
     let at = head_at s next h (counted_head s next h e).1 in
     let f = fields_at s at.fields in

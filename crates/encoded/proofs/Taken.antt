@@ -15,11 +15,7 @@ use Rattle.weights.specs.declared.Language.{Language}
 use Rattle.weights.specs.Sizes.{places, product_tags}
 use Rattle.weights.specs.Languages.{components_of}
 use Rattle.fields.specs.declared.Found.{Found}
-use Rattle.fields.specs.declared.LanguageRead.{LanguageRead}
-use Rattle.fields.specs.declared.LanguageRead.TheVariants.{Taken, Refused as NotTaken}
 use Rattle.fields.specs.declared.Head.{Head}
-use Rattle.fields.specs.declared.HeadRead.{HeadRead}
-use Rattle.fields.specs.declared.HeadRead.TheVariants.{Sound, Refused as Faulty}
 use Rattle.records.specs.declared.Listing.TheVariants.{Arcs, Attachments}
 use Rattle.file_bytes.specs.Bytes.{two_at, four_at}
 use Rattle.fields.specs.Nested.{nothing, language_at}
@@ -36,50 +32,55 @@ use Rattle.encoded.proofs.TakenLanguage.{one_more, two_more, two_small, language
 use Rattle.encoded.proofs.TakenLists.{list_of}
 use Rattle.refusals.specs.Checks.{Check}
 use Rattle.std.specs.Prelude.{Ok, Err}
+use Rattle.std.specs.Prelude.{Result}
+use Rattle.fields.specs.declared.Taken.{Taken}
+use Rattle.fields.specs.declared.SoundHead.{SoundHead}
+use Rattle.fields.specs.Nested.{taken}
+use Rattle.fields.specs.Header.{sound_head}
 
 -- ---- the head
 
 pub record HeadAt (s : List ℕ) (next : ℕ) (h : Head) : Type 0 where
   pub fields : fields_check s ≡ Ok tt
   pub found : Found
-  pub taken : language_at s 8 nothing ≡ Taken next found
+  pub taken : language_at s 8 nothing ≡ taken next found
   pub n_is : get_or s 5 0 ≡ h.n
   pub m_is : get_or s 6 0 ≡ h.m
   pub mode_is : get_or s 7 0 ≡ h.mode
   pub language_is : found.language ≡ h.language
 
-pub head_at : (s : List ℕ) (next : ℕ) (h : Head) → head_read s ≡ Sound next h → HeadAt s next h
+pub head_at : (s : List ℕ) (next : ℕ) (h : Head) → head_read s ≡ sound_head next h → HeadAt s next h
 unfolding head_read
 head_at s next h e = go (fields_check s) (language_at s 8 nothing) refl refl e
   where
-    go : (c : Check) (r : LanguageRead) → fields_check s ≡ c → language_at s 8 nothing ≡ r → head_from c s r ≡ Sound next h → HeadAt s next h
+    go : (c : Check) (r : Result Taken Refusal) → fields_check s ≡ c → language_at s 8 nothing ≡ r → head_from c s r ≡ sound_head next h → HeadAt s next h
     go (Err q) r f l e = never_sound e
-    go (Ok _) (NotTaken q) f l e = never_sound e
-    go (Ok tt) (Taken at found) f l e =
-        let i : at ≡ next = cc in
-        let j : ◌≡◌ {A = Head} (record { n = get_or s 5 0; m = get_or s 6 0; mode = get_or s 7 0; language = found.language }) h = cc in
+    go (Ok _) (Err q) f l e = never_sound e
+    go (Ok tt) (Ok t) f l e =
+        let read : SoundHead = record { next = t.next; head = record { n = get_or s 5 0; m = get_or s 6 0; mode = get_or s 7 0; language = t.found.language } } in
+        let same : read ≡ record { next = next; head = h } = cc in
         record {
           fields = f;
-          found = found;
-          taken = l ∙ ap (λ (z : ℕ). Taken z found) i;
-          n_is = ap (λ (x : Head). x.n) j;
-          m_is = ap (λ (x : Head). x.m) j;
-          mode_is = ap (λ (x : Head). x.mode) j;
-          language_is = ap (λ (x : Head). x.language) j;
+          found = t.found;
+          taken = l ∙ ap (λ (x : SoundHead). taken x.next t.found) same;
+          n_is = ap (λ (x : SoundHead). x.head.n) same;
+          m_is = ap (λ (x : SoundHead). x.head.m) same;
+          mode_is = ap (λ (x : SoundHead). x.head.mode) same;
+          language_is = ap (λ (x : SoundHead). x.head.language) same;
         }
 
-pub counted_head : (s : List ℕ) (next : ℕ) (h : Head) → file_read s ≡ Sound next h → (count_right s ≡ true) × (head_read s ≡ Sound next h)
+pub counted_head : (s : List ℕ) (next : ℕ) (h : Head) → file_read s ≡ sound_head next h → (count_right s ≡ true) × (head_read s ≡ sound_head next h)
 unfolding file_read
 counted_head s next h e = go (count_right s) (head_read s) refl refl e
   where
-    body : (at : ℕ) (k : Head) (c : Check) → head_once_checked at k c ≡ Sound next h → Sound at k ≡ Sound next h
-    body at k (Ok _) e = e
-    body at k (Err r) e = never_sound e
+    body : (t : SoundHead) (c : Check) → head_once_checked t.next t.head c ≡ sound_head next h → Ok t ≡ sound_head next h
+    body t (Ok _) e = e
+    body t (Err r) e = never_sound e
 
-    go : (b : Bool) (x : HeadRead) → count_right s ≡ b → head_read s ≡ x → cond b (with_body s x) (Faulty (Cut 0 0)) ≡ Sound next h → (count_right s ≡ true) × (head_read s ≡ Sound next h)
+    go : (b : Bool) (x : Result SoundHead Refusal) → count_right s ≡ b → head_read s ≡ x → cond b (with_body s x) (Err (Cut 0 0)) ≡ sound_head next h → (count_right s ≡ true) × (head_read s ≡ sound_head next h)
     go false x f g e = never_sound e
-    go true (Faulty r) f g e = never_sound e
-    go true (Sound at k) f g e = (f, g ∙ body at k (body_check s k at) e)
+    go true (Err r) f g e = never_sound e
+    go true (Ok t) f g e = (f, g ∙ body t (body_check s t.head t.next) e)
 
 -- ---- the bytes before the language
 
@@ -143,7 +144,7 @@ four_more s r =
     ∙ ap (λ (l : List ℕ). get_or s 5 0 ∷ l) (one_more s 6 (omega arith) ∙ ap (λ (l : List ℕ). get_or s 6 0 ∷ l) (one_more s 7 (omega arith))))
 
 -- Whatever is read without refusal is an encoding of a sound problem.
-pub decode : (s : List ℕ) → AreBytes s → (next : ℕ) (h : Head) → file_read s ≡ Sound next h → Encoded s h
+pub decode : (s : List ℕ) → AreBytes s → (next : ℕ) (h : Head) → file_read s ≡ sound_head next h → Encoded s h
 unfolding body_check
 decode s by next h e =
     let c = counted_head s next h e in

@@ -16,14 +16,15 @@ use Rattle.weights.specs.Sizes.{product_tags}
 use Rattle.weights.specs.Weights.{Sound, SoundLimit}
 use Rattle.weights.specs.Languages.{SmallLimit, SmallLimits}
 use Rattle.fields.specs.declared.Found.{Found}
-use Rattle.fields.specs.declared.LanguageRead.{LanguageRead}
-use Rattle.fields.specs.declared.LanguageRead.TheVariants.{Taken, Refused}
 use Rattle.file_bytes.specs.Bytes.{two_at}
 use Rattle.fields.specs.Nested.{with_component, with_tag, dist_tag, width_tag, class_tag, gain_tag, product_tag, component_read, after, language_from}
 use Rattle.fields.proofs.Advancing.{by_test}
 use Rattle.encoded.specs.Encode.{Nesting, one, product, nested, bytes2, component_bytes, language_bytes}
 use Rattle.encoded.specs.Taken.{AreBytes, found_after}
 use Rattle.encoded.proofs.Here.{products, found_tags}
+use Rattle.std.specs.Prelude.{Result, Ok, Err}
+use Rattle.fields.specs.declared.Taken.{Taken}
+use Rattle.fields.specs.Nested.{taken}
 
 pub one_more : (s : List ℕ) (at : ℕ) → at < length s → drop at s ≡ get_or s at 0 ∷ drop (at + 1) s
 one_more s at h = drop-cons s at 0 h ∙ ap (λ (z : ℕ). get_or s at 0 ∷ drop z s) (sym (add-one at))
@@ -48,7 +49,7 @@ two_small s at by = omega (arith, by at, by (at + 1))
 
 -- ---- a component, a language
 
-never : {X : Type 0} {r : Refusal} {next : ℕ} {g : Found} → Refused r ≡ Taken next g → X
+never : {X : Type 0} {r : Refusal} {next : ℕ} {g : Found} → Err r ≡ taken next g → X
 never e = let z : ◌≡◌ {A = ℕ} 0 1 = cc in absurd (omega arith)
 
 pub record LanguageOf (s : List ℕ) (at : ℕ) (f : Found) (next : ℕ) (g : Found) : Type 0 where
@@ -62,11 +63,12 @@ pub record LanguageOf (s : List ℕ) (at : ℕ) (f : Found) (next : ℕ) (g : Fo
 
 module _ (s : List ℕ) (by : AreBytes s) (at : ℕ) (f : Found) (next : ℕ) (g : Found) (inside : at < length s) (low : f.tags ≤ product_tags) where
   -- a component, its bytes being there
-  taken : (c : Component) (end : ℕ) → SoundLimit c → SmallLimit 65535 c → drop at s ≡ component_bytes c ++ drop end s → end ≤ length s → Taken end (with_component f c) ≡ Taken next g
+  one_taken : (c : Component) (end : ℕ) → SoundLimit c → SmallLimit 65535 c → drop at s ≡ component_bytes c ++ drop end s → end ≤ length s → taken end (with_component f c) ≡ taken next g
       → LanguageOf s at f next g
-  taken c end ok small b into e =
-      let i : end ≡ next = cc in
-      let j : with_component f c ≡ g = cc in
+  one_taken c end ok small b into e =
+      let same : ◌≡◌ {A = Taken} (record { next = end; found = with_component f c }) (record { next = next; found = g }) = cc in
+      let i : end ≡ next = ap (λ (x : Taken). x.next) same in
+      let j : with_component f c ≡ g = ap (λ (x : Taken). x.found) same in
       record { nesting = one c; bytes = rw (← i) b; found = j; limits = (ok, tt); small = (small, tt); few = omega arith; into = rw (← i) into }
 
   tagged : (x : ℕ) → eqb (get_or s at 0) x ≡ true → drop at s ≡ x ∷ drop (at + 1) s
@@ -78,22 +80,22 @@ module _ (s : List ℕ) (by : AreBytes s) (at : ℕ) (f : Found) (next : ℕ) (g
       tagged x t
       ∙ ap (λ (l : List ℕ). x ∷ l) (two_more s (at + 1) by (omega (arith, leb-false (length s) (at + 2) h)) ∙ ap (λ (k : ℕ). bytes2 (two_at s (at + 1)) ++ drop k s) z)
 
-  abbrev P : LanguageRead → Type 0
-  P r = r ≡ Taken next g → LanguageOf s at f next g
+  abbrev P : Result Taken Refusal → Type 0
+  P r = r ≡ taken next g → LanguageOf s at f next g
 
   component_of_lem : P (component_read s at f)
   unfolding component_read
   component_of_lem =
-      by_test P (eqb (get_or s at 0) dist_tag) (λ t. taken Dist (at + 1) tt tt (tagged dist_tag t) (omega arith)) (λ _.
-      by_test P (eqb (get_or s at 0) gain_tag) (λ t. taken Gain (at + 1) tt tt (tagged gain_tag t) (omega arith)) (λ _.
+      by_test P (eqb (get_or s at 0) dist_tag) (λ t. one_taken Dist (at + 1) tt tt (tagged dist_tag t) (omega arith)) (λ _.
+      by_test P (eqb (get_or s at 0) gain_tag) (λ t. one_taken Gain (at + 1) tt tt (tagged gain_tag t) (omega arith)) (λ _.
       by_test P (eqb (get_or s at 0) width_tag)
       (λ t. by_test P (leb (length s) (at + 2)) (λ _ e. never e) (λ h.
       by_test P (eqb (two_at s (at + 1)) 0) (λ _ e. never e) (λ z.
-      taken (Width (two_at s (at + 1))) (at + 3) (positive (two_at s (at + 1)) (eqb-false (two_at s (at + 1)) 0 z)) (two_small s (at + 1) by) (limited width_tag t h) (omega (arith, leb-false (length s) (at + 2) h)))))
+      one_taken (Width (two_at s (at + 1))) (at + 3) (positive (two_at s (at + 1)) (eqb-false (two_at s (at + 1)) 0 z)) (two_small s (at + 1) by) (limited width_tag t h) (omega (arith, leb-false (length s) (at + 2) h)))))
       (λ _.
       by_test P (eqb (get_or s at 0) class_tag)
       (λ t. by_test P (leb (length s) (at + 2)) (λ _ e. never e) (λ h.
-      taken (Class (two_at s (at + 1))) (at + 3) tt (two_small s (at + 1) by) (limited class_tag t h) (omega (arith, leb-false (length s) (at + 2) h))))
+      one_taken (Class (two_at s (at + 1))) (at + 3) tt (two_small s (at + 1) by) (limited class_tag t h) (omega (arith, leb-false (length s) (at + 2) h))))
       (λ _ e. never e))))
     where
       positive : (x : ℕ) → (x ≡ 0 → ⊥) → 1 ≤ x
@@ -124,7 +126,7 @@ both s at f mid q next g five x y = record {
   into = y.into;
 }
 
-pub language_of_lem : (fuel : ℕ) (s : List ℕ) (at : ℕ) (f : Found) (next : ℕ) (g : Found) → AreBytes s → f.tags ≤ product_tags → language_from fuel s at f ≡ Taken next g → LanguageOf s at f next g
+pub language_of_lem : (fuel : ℕ) (s : List ℕ) (at : ℕ) (f : Found) (next : ℕ) (g : Found) → AreBytes s → f.tags ≤ product_tags → language_from fuel s at f ≡ taken next g → LanguageOf s at f next g
 unfolding language_from
 language_of_lem zero s at f next g by low = λ e. never e
 language_of_lem (suc fuel) s at f next g by low =
@@ -136,14 +138,14 @@ language_of_lem (suc fuel) s at f next g by low =
     (λ mid q t. language_of_lem fuel s mid q next g by t)))
     (λ _. component_of_lem s by at f next g (leb-false (length s) at l) low))
   where
-    P : LanguageRead → Type 0
-    P r = r ≡ Taken next g → LanguageOf s at f next g
+    P : Result Taken Refusal → Type 0
+    P r = r ≡ taken next g → LanguageOf s at f next g
 
-    sides : drop at s ≡ product_tag ∷ drop (at + 1) s → (r : LanguageRead)
-        → ((mid : ℕ) (x : Found) → r ≡ Taken mid x → LanguageOf s (at + 1) (with_tag f) mid x)
-        → ((mid : ℕ) (x : Found) → x.tags ≤ product_tags → language_from fuel s mid x ≡ Taken next g → LanguageOf s mid x next g)
-        → after r (language_from fuel s) ≡ Taken next g → LanguageOf s at f next g
-    sides five (Refused r) left right e = never e
-    sides five (Taken mid x) left right e =
-        let a = left mid x refl in
-        both s at f mid x next g five a (right mid x (omega (arith, a.few, ap (λ (z : Found). z.tags) a.found, found_tags a.nesting (with_tag f))) e)
+    sides : drop at s ≡ product_tag ∷ drop (at + 1) s → (r : Result Taken Refusal)
+        → ((mid : ℕ) (x : Found) → r ≡ taken mid x → LanguageOf s (at + 1) (with_tag f) mid x)
+        → ((mid : ℕ) (x : Found) → x.tags ≤ product_tags → language_from fuel s mid x ≡ taken next g → LanguageOf s mid x next g)
+        → after r (language_from fuel s) ≡ taken next g → LanguageOf s at f next g
+    sides five (Err r) left right e = never e
+    sides five (Ok t) left right e =
+        let a = left t.next t.found refl in
+        both s at f t.next t.found next g five a (right t.next t.found (omega (arith, a.few, ap (λ (z : Found). z.tags) a.found, found_tags a.nesting (with_tag f))) e)

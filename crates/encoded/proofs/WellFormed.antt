@@ -24,11 +24,8 @@ use Rattle.weights.proofs.Checking.{few, count_in, limits_exact}
 use Rattle.weights.specs.Written.{SumsUpTo, NotOnes}
 use Rattle.weights.proofs.Readings.{reads_words, in_range_valid}
 use Rattle.fields.specs.declared.Head.{Head}
-use Rattle.fields.specs.declared.HeadRead.{HeadRead}
-use Rattle.fields.specs.declared.HeadRead.TheVariants.{Sound, Refused as Faulty}
 use Rattle.records.specs.declared.Listing.{Listing}
 use Rattle.records.specs.declared.Listing.TheVariants.{Arcs, Attachments}
-use Rattle.files.specs.declared.ReadAnswer.TheVariants.{Done}
 use Rattle.file_bytes.specs.Bytes.{two_at}
 use Rattle.records.specs.Records.{length_of, ends_at, ends_check, values_check, record_check, records_check, record_list_check, list_end, body_check}
 use Rattle.files.specs.File.{file_read}
@@ -46,6 +43,10 @@ use Rattle.encoded.proofs.Taken.{decode}
 use Rattle.encoded.proofs.Here.{language_has}
 use Rattle.encoded.proofs.Cells.{entry_at_lem}
 use Rattle.std.specs.Prelude.{Ok}
+use Rattle.std.specs.Prelude.{Result, Ok, Err}
+use Rattle.fields.specs.declared.SoundHead.{SoundHead}
+use Rattle.fields.specs.Header.{sound_head}
+use Rattle.files.specs.Answers.{problem_read}
 
 -- ---- the values of records that pass
 
@@ -139,22 +140,22 @@ mapping_reads s h c by first (suc count) i j ok =
 
 -- ---- an answer that is done
 
-pub done_means : (s a m a' m' : List ℕ) (n k mode : ℕ) (l : Language) → ReadSays s a m a' m' (Done n k mode l) → DoneMeans s a m a' m' n k mode l
+pub done_means : (s a m a' m' : List ℕ) (n k mode : ℕ) (l : Language) → ReadSays s a m a' m' (problem_read n k mode l) → DoneMeans s a m a' m' n k mode l
 unfolding sized
 done_means s a m a' m' n k mode l w = go (ltb (length a) 1024) (ltb (length m) 2560) (file_read s) refl w.answer w.arcs_hold w.mapping_holds
   where
-    refused : {X : Type 0} (r : Refusal) → read_said (Done n k mode l) ≡ refused_row r → X
+    refused : {X : Type 0} (r : Refusal) → read_said (problem_read n k mode l) ≡ refused_row r → X
     refused r e = absurd (told_not_done r (sym (ap (λ (x : Row). x.told) e)))
 
-    go : (x y : Bool) (r : HeadRead) → file_read s ≡ r
-        → read_said (Done n k mode l) ≡ cond x (refused_row (Length 1 0)) (cond y (refused_row (Length 3 0)) (head_row r))
+    go : (x y : Bool) (r : Result SoundHead Refusal) → file_read s ≡ r
+        → read_said (problem_read n k mode l) ≡ cond x (refused_row (Length 1 0)) (cond y (refused_row (Length 3 0)) (head_row r))
         → a' ≡ cond x a (cond y a (arcs_over s r a)) → m' ≡ cond x m (cond y m (mapping_over s r m)) → DoneMeans s a m a' m' n k mode l
     go true y r q e u v = refused (Length 1 0) e
     go false true r q e u v = refused (Length 3 0) e
-    go false false (Faulty r) q e u v = refused r e
-    go false false (Sound next h) q e u v = record {
-      next = next;
-      head = h;
+    go false false (Err r) q e u v = refused r e
+    go false false (Ok t) q e u v = record {
+      next = t.next;
+      head = t.head;
       read = q;
       n_is = sym (ap (λ (x : Row). x.n) e);
       m_is = sym (ap (λ (x : Row). x.m) e);
@@ -173,7 +174,7 @@ table_entry s h list first count i j z hi hj =
     entry_at_lem (words_each list) (listed_words s h list first count) (listed_wide s h list first count) h.n (columns h list) i j z hi hj
 
 -- what a file that passes leaves, for its own head
-head_well : (s a m : List ℕ) → AreBytes s → (next : ℕ) (h : Head) → file_read s ≡ Sound next h
+head_well : (s a m : List ℕ) → AreBytes s → (next : ℕ) (h : Head) → file_read s ≡ sound_head next h
     → WellFormed (list_over s h Arcs next a) (list_over s h Attachments (list_end s h Arcs next) m) h.n h.m h.mode h.language
 unfolding body_check
 head_well s a m by next h e =
@@ -206,7 +207,7 @@ head_well s a m by next h e =
     }
 
 -- After a read that is done, what the calls are given is well formed.
-pub read_well : (s a m a' m' : List ℕ) (n k mode : ℕ) (l : Language) → AreBytes s → ReadSays s a m a' m' (Done n k mode l) → WellFormed a' m' n k mode l
+pub read_well : (s a m a' m' : List ℕ) (n k mode : ℕ) (l : Language) → AreBytes s → ReadSays s a m a' m' (problem_read n k mode l) → WellFormed a' m' n k mode l
 read_well s a m a' m' n k mode l by w =
     let d = done_means s a m a' m' n k mode l w in
     subst (λ (x : List ℕ). WellFormed x m' n k mode l) (sym d.arcs_are)
@@ -218,7 +219,7 @@ read_well s a m a' m' n k mode l by w =
     (head_well s a m by d.next d.head d.read))))))
 
 -- Whatever is read without refusal is the file of a sound problem, under some nesting of its products: the one that is given back.
-pub read_encoded : (s a m a' m' : List ℕ) (n k mode : ℕ) (l : Language) → AreBytes s → ReadSays s a m a' m' (Done n k mode l)
+pub read_encoded : (s a m a' m' : List ℕ) (n k mode : ℕ) (l : Language) → AreBytes s → ReadSays s a m a' m' (problem_read n k mode l)
     → Encoded s (record { n = n; m = k; mode = mode; language = l })
 read_encoded s a m a' m' n k mode l by w =
     let d = done_means s a m a' m' n k mode l w in

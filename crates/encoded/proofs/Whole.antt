@@ -13,11 +13,8 @@ use Rattle.refusals.specs.declared.Refusal.TheVariants.{Version, Size}
 use Rattle.weights.specs.declared.Component.{Component}
 use Rattle.weights.specs.Sizes.{places}
 use Rattle.fields.specs.declared.Head.{Head}
-use Rattle.fields.specs.declared.HeadRead.TheVariants.{Sound}
 use Rattle.records.specs.declared.Listing.{Listing}
 use Rattle.records.specs.declared.Listing.TheVariants.{Arcs, Attachments}
-use Rattle.files.specs.declared.ReadAnswer.{ReadAnswer}
-use Rattle.files.specs.declared.ReadAnswer.TheVariants.{Done}
 use Rattle.file_bytes.specs.Bytes.{two_at, four_at}
 use Rattle.fields.specs.Nested.{nothing}
 use Rattle.fields.specs.Header.{field_check, mode_field_check, fields_check, head_read}
@@ -32,6 +29,10 @@ use Rattle.encoded.specs.Taken.{found_after, next_of, GivenBack}
 use Rattle.encoded.proofs.Here.{here, past, two_here, language_here, found_language, language_has, one_more_component}
 use Rattle.encoded.proofs.Entries.{AllSound, Counted, list_here, words_here}
 use Rattle.std.specs.Prelude.{Ok}
+use Rattle.std.specs.Prelude.{Result}
+use Rattle.files.specs.declared.Problem.{Problem as ReadProblem}
+use Rattle.fields.specs.Header.{sound_head}
+use Rattle.files.specs.Answers.{problem_read}
 
 field_ok : (s : List ℕ) (at : ℕ) (r : Refusal) (lo hi v : ℕ) → at < length s → get_or s at 0 ≡ v → lo ≤ v → v ≤ hi → field_check s at r lo hi ≡ Ok tt
 unfolding field_check
@@ -70,7 +71,7 @@ mode_ok p ok s em eo r = rw em (go (eqb p.m 0) refl)
 
 record Opened (s : List ℕ) (p : Problem) (t : Nesting) : Type 0 where
   pub count_ok : count_right s ≡ true
-  pub head_ok : head_read s ≡ Sound (next_of t) (head_of p)
+  pub head_ok : head_read s ≡ sound_head (next_of t) (head_of p)
   pub lists_at : drop (next_of t) s ≡ list_bytes Arcs p.mode p.arcs ++ (list_bytes Attachments p.mode p.attachments ++ [])
 
 opened : (p : Problem) → SoundProblem p → (t : Nesting) → nested t ≡ p.language → (s : List ℕ) → s ≡ encode p t → Opened s p t
@@ -124,9 +125,9 @@ given_back p ok t nests s e =
     }
 
 -- Reading the file of a sound problem, under any nesting, gives the problem back.
-pub read_encode : (p : Problem) → SoundProblem p → (t : Nesting) → nested t ≡ p.language → (a m a' m' : List ℕ) (r : ReadAnswer) → 1024 ≤ length a → 2560 ≤ length m
+pub read_encode : (p : Problem) → SoundProblem p → (t : Nesting) → nested t ≡ p.language → (a m a' m' : List ℕ) (r : Result ReadProblem Refusal) → 1024 ≤ length a → 2560 ≤ length m
     → ReadSays (encode p t) a m a' m' r
-    → (r ≡ Done p.n p.m p.mode (language_with p.language))
+    → (r ≡ problem_read p.n p.m p.mode (language_with p.language))
     × (a' ≡ encoded_table (head_of p) Arcs p.arcs ++ drop (size_of (head_of p) Arcs) a)
     × (m' ≡ encoded_table (head_of p) Attachments p.attachments ++ drop (size_of (head_of p) Attachments) m)
 unfolding sized
@@ -134,7 +135,7 @@ read_encode p ok t nests a m a' m' r ha hm w =
     let g = given_back p ok t nests (encode p t) refl in
     let la = le-ltb (length a) 1024 ha in
     let lm = le-ltb (length m) 2560 hm in (
-      answer_one r (Done p.n p.m p.mode (language_with p.language)) (w.answer ∙ rw (la, lm, g.checked)),
+      answer_one r (problem_read p.n p.m p.mode (language_with p.language)) (w.answer ∙ rw (la, lm, g.checked)),
       w.arcs_hold ∙ rw (la, lm, g.checked, g.arcs_are),
       w.mapping_holds ∙ rw (la, lm, g.checked, g.mapping_is),
     )

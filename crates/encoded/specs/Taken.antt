@@ -6,7 +6,6 @@ use Rattle.weights.specs.declared.Language.{Language}
 use Rattle.weights.specs.Sizes.{places}
 use Rattle.fields.specs.declared.Found.{Found}
 use Rattle.fields.specs.declared.Head.{Head}
-use Rattle.fields.specs.declared.HeadRead.TheVariants.{Sound}
 use Rattle.records.specs.declared.Listing.TheVariants.{Arcs, Attachments}
 use Rattle.file_bytes.specs.Bytes.{two_at}
 use Rattle.fields.specs.Nested.{with_component, with_tag}
@@ -14,6 +13,7 @@ use Rattle.records.specs.Records.{list_end}
 use Rattle.files.specs.File.{file_read}
 use Rattle.contents.specs.Contents.{listed_table, list_over}
 use Rattle.encoded.specs.Encode.{Problem, SoundProblem, Nesting, one, product, nested, language_bytes, encode, head_of, encoded_table}
+use Rattle.fields.specs.Header.{sound_head}
 
 -- every element is a byte
 abbrev pub AreBytes : List ℕ → Type 0
@@ -39,7 +39,7 @@ next_of t = 8 + length (language_bytes t)
 
 -- the file s is read as the problem p: its head, its arcs and its mapping
 pub record GivenBack (p : Problem) (t : Nesting) (s : List ℕ) : Type 0 where
-  pub checked : file_read s ≡ Sound (next_of t) (head_of p)
+  pub checked : file_read s ≡ sound_head (next_of t) (head_of p)
   pub arcs_are : listed_table s (head_of p) Arcs (next_of t + 2) (two_at s (next_of t)) ≡ encoded_table (head_of p) Arcs p.arcs
   pub mapping_is : listed_table s (head_of p) Attachments (list_end s (head_of p) Arcs (next_of t) + 2) (two_at s (list_end s (head_of p) Arcs (next_of t)))
       ≡ encoded_table (head_of p) Attachments p.attachments
@@ -56,7 +56,7 @@ pub record InRanges (h : Head) : Type 0 where
 pub record DoneMeans (s a m a' m' : List ℕ) (n k mode : ℕ) (l : Language) : Type 0 where
   pub next : ℕ
   pub head : Head
-  pub read : file_read s ≡ Sound next head
+  pub read : file_read s ≡ sound_head next head
   pub n_is : head.n ≡ n
   pub m_is : head.m ≡ k
   pub mode_is : head.mode ≡ mode

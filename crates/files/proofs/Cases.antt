@@ -15,9 +15,6 @@ use Rattle.refusals.proofs.Cases.{Exact, AllExact, unless_exact, no_more, ◌and
 use Rattle.weights.specs.Sizes.{product_tags}
 use Rattle.file_bytes.specs.Bytes.{four_at}
 use Rattle.fields.specs.declared.Head.{Head}
-use Rattle.fields.specs.declared.HeadRead.TheVariants.{Refused as Faulty}
-use Rattle.fields.specs.declared.LanguageRead.{LanguageRead}
-use Rattle.fields.specs.declared.LanguageRead.TheVariants.{Taken, Refused as NotTaken}
 use Rattle.fields.specs.Nested.{nothing, language_at}
 use Rattle.fields.specs.Header.{fields_check, head_from, head_read}
 use Rattle.fields.specs.Cases.{header_cases, nested_cases}
@@ -29,6 +26,9 @@ use Rattle.files.specs.File.{count_right, head_once_checked, with_body, file_rea
 use Rattle.files.specs.Answers.{head_row, refused_row, sized, file_row}
 use Rattle.files.specs.Cases.{short_case, bytes_case, after_language_cases, file_cases, read_cases}
 use Rattle.std.specs.Prelude.{Ok, Err}
+use Rattle.std.specs.Prelude.{Result}
+use Rattle.fields.specs.declared.Taken.{Taken}
+use Rattle.refusals.specs.declared.Refusal.{Refusal}
 
 -- ---- each case is exact
 
@@ -38,9 +38,9 @@ short_exact which least buffer = unless_exact (Length which) 0 (leb_exactly leas
 bytes_exact : (s : List ℕ) → Exact (bytes_case s)
 bytes_exact s = unless_exact (Bytes 0) 0 (both_exactly (leb_exactly 4 (length s)) (eqb_exactly (four_at s 0) (length s - 4)))
 
-lists_exact : (s : List ℕ) (l : LanguageRead) → AllExact (after_language_cases s l)
-lists_exact s (NotTaken r) = no_more
-lists_exact s (Taken next f) = body_exact s _ next
+lists_exact : (s : List ℕ) (l : Result Taken Refusal) → AllExact (after_language_cases s l)
+lists_exact s (Err r) = no_more
+lists_exact s (Ok t) = body_exact s _ t.next
 
 pub file_exact : (s : List ℕ) → AllExact (file_cases s)
 file_exact s = bytes_exact s and append_exact (header_exact s) (append_exact (nested_exact s 8 product_tags 1) (lists_exact s (language_at s 8 nothing)))
@@ -54,11 +54,11 @@ read_numbers s arcs mapping = refl
 
 -- ---- and they are what the reader's definition refuses
 
-head_told : (s : List ℕ) (c : Check) (l : LanguageRead)
+head_told : (s : List ℕ) (c : Check) (l : Result Taken Refusal)
     → (head_row (with_body s (head_from c s l))).told ≡ answer_told (result_and c (result_and (once_read l (λ next f. (Ok tt))) (check_of (after_language_cases s l))))
 head_told s (Err r) l = refl
-head_told s (Ok _) (NotTaken r) = refl
-head_told s (Ok _) (Taken next f) = once next _ (body_check s _ next) ∙ ap answer_told (body_check_lem s _ next)
+head_told s (Ok _) (Err r) = refl
+head_told s (Ok _) (Ok t) = once t.next _ (body_check s _ t.next) ∙ ap answer_told (body_check_lem s _ t.next)
   where
     once : (next : ℕ) (h : Head) (c : Check) → (head_row (head_once_checked next h c)).told ≡ answer_told c
     once next h (Ok _) = refl
@@ -76,7 +76,7 @@ file_cases_lem : (s : List ℕ) → (head_row (file_read s)).told ≡ answer_tol
 unfolding file_read
 file_cases_lem s = go (count_right s)
   where
-    go : (b : Bool) → (head_row (cond b (with_body s (head_read s)) (Faulty (Bytes 0 0)))).told ≡ answer_told (result_and (unless b (Bytes 0 0)) (check_of (header_cases s ++ (nested_cases s 8 product_tags 1 ++ after_language_cases s (language_at s 8 nothing)))))
+    go : (b : Bool) → (head_row (cond b (with_body s (head_read s)) (Err (Bytes 0 0)))).told ≡ answer_told (result_and (unless b (Bytes 0 0)) (check_of (header_cases s ++ (nested_cases s 8 product_tags 1 ++ after_language_cases s (language_at s 8 nothing)))))
     go true = head_cases s
     go false = refl
 

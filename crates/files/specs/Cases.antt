@@ -1,17 +1,17 @@
 -- The reader's refusals as one list of cases: the buffers' lengths (9), then the file in its order (01, "File" and "Refusal numbers").
 -- To be believed: in each case what it tells and where that is due, and the order. What follows the language is counted from the offset that its reading
 -- gives, with the components that it gives (`language_at`). That the reader tells exactly what is due is `read_told` (proofs/Cases).
-use Rattle.std.specs.Prelude.{ℕ, ◌-◌, ◌≤◌, ◌≡◌, List, [], ◌∷◌, ◌++◌, leb, length}
+use Rattle.std.specs.Prelude.{ℕ, ◌-◌, ◌≤◌, ◌≡◌, List, [], ◌∷◌, ◌++◌, leb, length, Result, Ok, Err}
 use Rattle.refusals.specs.declared.Refusal.TheVariants.{Bytes, Length}
 use Rattle.refusals.specs.Cases.{Case, due_unless}
 use Rattle.weights.specs.Sizes.{product_tags}
 use Rattle.file_bytes.specs.Bytes.{four_at}
-use Rattle.fields.specs.declared.LanguageRead.{LanguageRead}
-use Rattle.fields.specs.declared.LanguageRead.TheVariants.{Taken, Refused}
 use Rattle.fields.specs.Nested.{nothing, language_at}
 use Rattle.fields.specs.Cases.{byte_at, header_cases, nested_cases}
 use Rattle.records.specs.Cases.{body_cases}
 use Rattle.files.specs.File.{count_right}
+use Rattle.fields.specs.declared.Taken.{Taken}
+use Rattle.refusals.specs.declared.Refusal.{Refusal}
 
 -- 9: the buffer holds fewer words than it must
 abbrev pub short_case : ℕ → ℕ → List ℕ → Case
@@ -26,9 +26,9 @@ abbrev pub bytes_case : List ℕ → Case
 bytes_case s = due_unless (count_right s) (CountRight s) (Bytes 0) 0
 
 -- the two lists after the language; where none was read, a tag was refused before
-abbrev pub after_language_cases : List ℕ → LanguageRead → List Case
-after_language_cases s (Refused r) = []
-after_language_cases s (Taken next f) = body_cases s (record { n = byte_at s 5; m = byte_at s 6; mode = byte_at s 7; language = f.language }) next
+abbrev pub after_language_cases : List ℕ → Result Taken Refusal → List Case
+after_language_cases s (Err r) = []
+after_language_cases s (Ok t) = body_cases s (record { n = byte_at s 5; m = byte_at s 6; mode = byte_at s 7; language = t.found.language }) t.next
 
 -- The cases of a file, from its count of bytes to its end.
 abbrev pub file_cases : List ℕ → List Case

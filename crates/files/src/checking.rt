@@ -3,40 +3,22 @@ ghost use Rattle.std.specs.Prelude.{◌≡◌};
 ghost use Rattle.files.specs.File.{file_read};
 ghost use Rattle.fields.specs.Parts.{SmallHeadRead};
 
-use fields::HeadRead;
+use fields::SoundHead;
 use fields::header::header;
 use file_bytes::four;
 use records::lists::body_check;
-use refusals::{Check, Refusal};
+use refusals::Refusal;
 
 // The whole file: its head and where its arcs begin, or the first refusal.
-pub fn check_file(file: &[u8]) -> HeadRead
+#[tactic(auto, unfolding(crate::specs::File::file_read))]
+pub fn check_file(file: &[u8]) -> Result<SoundHead, Refusal>
     ensures value { result ≡ file_read file.now }
     ensures small_head_read { SmallHeadRead file.now result }
 {
-    if file.len() < 4 {
-        return HeadRead::Refused(Refusal::Bytes { which: 0, place: 0 });
+    if file.len() < 4 || four(file) != file.len() - 4 {
+        return Err(Refusal::Bytes { which: 0, place: 0 });
     }
-    let counted = four(file);
-    let there = file.len() - 4;
-    if counted != there {
-        return HeadRead::Refused(Refusal::Bytes { which: 0, place: 0 });
-    }
-    let read = header(file);
-    match read {
-        HeadRead::Refused(r) => {
-            return HeadRead::Refused(r);
-        }
-        HeadRead::Sound { next, head } => {
-            let found = body_check(file, head, next);
-            match found {
-                Check::Refused(r) => {
-                    return HeadRead::Refused(r);
-                }
-                Check::Passed => {
-                    return HeadRead::Sound { next, head };
-                }
-            }
-        }
-    }
+    let sound = header(file)?;
+    body_check(file, sound.head, sound.next)?;
+    Ok(sound)
 }

@@ -5,17 +5,13 @@
 pub mod checking;
 pub mod reading;
 
-use refusals::Refusal;
 use weights::Language;
 
-// What the reader answers: the numbers of the network and the language; or the first refusal.
+// What the reader gives: the numbers of the network and the language.
 #[derive(Clone, Copy)]
-pub enum ReadAnswer {
-    Done {
-        n: u32,
-        m: u32,
-        mode: u32,
-        language: Language,
-    },
-    Refused(Refusal),
+pub struct Problem {
+    pub n: u32,
+    pub m: u32,
+    pub mode: u32,
+    pub language: Language,
 }
