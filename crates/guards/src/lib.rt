@@ -2,6 +2,7 @@
 #![tactic(auto)]
 
 pub mod entrance;
+pub mod network;
 
 ghost use Rattle.std.specs.Prelude.{◌≡◌};
 ghost use Rattle.weights.specs.Languages.{places_of};

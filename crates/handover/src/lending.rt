@@ -2,27 +2,25 @@
 ghost use Rattle.std.specs.Prelude.{◌≡◌, ◌<◌};
 ghost use Rattle.refusals.specs.Checks.{answer_told};
 ghost use Rattle.matrices.specs.Buffers.{Square};
-ghost use Rattle.guards.specs.OnNetwork.{on_network};
 ghost use Rattle.handover.specs.Calls.{row_part, row_start, handover_check, lender_row, lender_said, lent_row, lent_start};
 
 use super::{Lender, checks};
+use guards::network::Network;
 use holding::comparing;
 use refusals::Refusal;
-use weights::{Language, WEIGHT_WORDS};
+use weights::WEIGHT_WORDS;
 
 // Which matrix lends: the new one where every entry of it is the best, else the standing one. Refuses 3, 5, 4, 9, 10, 6 on A, 7.
 pub fn lender(
-    l: Language,
-    n: u32,
-    a: &[u32],
+    network: &Network<'_>,
     standing: &[u32],
     newer: &[u32],
     i: u32,
 ) -> Result<Lender, Refusal>
-    ensures { lender_said result ≡ lender_row (on_network l n a.now) standing.now newer.now i }
+    ensures { lender_said result ≡ lender_row network.now standing.now newer.now i }
 {
-    let p = checks::ready(l, n, a, standing, newer, i)?;
-    if comparing::all_best(p, n as usize, a, newer) {
+    let p = checks::ready(network, standing, newer, i)?;
+    if comparing::all_best(p, network.n as usize, network.arcs, newer) {
         return Ok(Lender::Newer);
     }
     Ok(Lender::Standing)
@@ -41,34 +39,30 @@ fn row_of<'b>(s: &'b [u32], n: usize, i: usize) -> &'b [u32]
 
 // Row i of the new matrix or of the standing one, lent and not copied; an empty part where the call refuses.
 pub fn lent_row<'b>(
-    l: Language,
-    n: u32,
-    a: &[u32],
+    network: &Network<'_>,
     standing: &'b [u32],
     newer: &'b [u32],
     i: u32,
 ) -> &'b [u32]
-    ensures result_value { result.now ≡ lent_row (on_network l n a.now) standing.now newer.now i }
-    ensures ref_ptr_value { result.ref_ptr ≡ lent_start (on_network l n a.now) standing.now newer.now i standing.entry.ref_ptr newer.entry.ref_ptr }
+    ensures result_value { result.now ≡ lent_row network.now standing.now newer.now i }
+    ensures ref_ptr_value { result.ref_ptr ≡ lent_start network.now standing.now newer.now i standing.entry.ref_ptr newer.entry.ref_ptr }
 {
-    match lender(l, n, a, standing, newer, i) {
-        Ok(Lender::Newer) => row_of(newer, n as usize, i as usize),
-        Ok(Lender::Standing) => row_of(standing, n as usize, i as usize),
+    match lender(network, standing, newer, i) {
+        Ok(Lender::Newer) => row_of(newer, network.n as usize, i as usize),
+        Ok(Lender::Standing) => row_of(standing, network.n as usize, i as usize),
         Err(_) => &standing[0..0],
     }
 }
 
 // Why an empty part is lent, or done.
 pub fn which_refusal(
-    l: Language,
-    n: u32,
-    a: &[u32],
+    network: &Network<'_>,
     standing: &[u32],
     newer: &[u32],
     i: u32,
 ) -> Result<(), Refusal>
-    ensures { answer_told result ≡ answer_told (handover_check (on_network l n a.now) standing.now newer.now i) }
+    ensures { answer_told result ≡ answer_told (handover_check network.now standing.now newer.now i) }
 {
-    lender(l, n, a, standing, newer, i)?;
+    lender(network, standing, newer, i)?;
     Ok(())
 }

@@ -8,14 +8,14 @@ ghost use Rattle.weights.specs.Sizes.{places};
 ghost use Rattle.matrices.specs.Buffers.{matrix_in};
 ghost use Rattle.matrices.specs.Steps.{Given};
 ghost use Rattle.guards.specs.Checks.{is_step, many_case, list_case, most_steps};
-ghost use Rattle.guards.specs.OnNetwork.{on_network};
 ghost use Rattle.routes.specs.Calls.{step_of, step_fits, steps_row, steps_left, steps_said};
 ghost use Rattle.routes.specs.Ready.{step_meant, step_left, AllSteps, run_left, run_done};
 
+use guards::network::Network;
 use numbers::Node;
 use refusals::Refusal;
 use routes::{FIRST_SETTLE, MOST_STEPS, Step, Stopped, checks};
-use weights::{Language, Places};
+use weights::Places;
 
 // The step that a number means.
 fn step_of(x: u32) -> Step
@@ -79,13 +79,14 @@ fn run(p: Places, n: usize, a: &[u32], r: &mut [u32], list: &[u32]) -> u32
 }
 
 // Runs a list of steps on r. Refuses 3, 5, 4, 9, 10, 6 on A and R, 13, 7, and 11 while running: then the earlier steps stand.
-pub fn steps(l: Language, n: u32, a: &[u32], r: &mut [u32], list: &[u32]) -> Result<u32, Stopped>
-    ensures result_value { steps_said result ≡ steps_row (on_network l n a.now) r.old list.now }
-    ensures r_after { r.new ≡ steps_left (on_network l n a.now) r.old list.now }
+pub fn steps(network: &Network<'_>, r: &mut [u32], list: &[u32]) -> Result<u32, Stopped>
+    ensures result_value { steps_said result ≡ steps_row network.now r.old list.now }
+    ensures r_after { r.new ≡ steps_left network.now r.old list.now }
 {
-    let p = checks::ready(l, n, a, r)?;
-    check_list(n as usize, list)?;
-    let done = run(p, n as usize, a, r, list);
+    let p = checks::ready(network, r)?;
+    let n = network.n as usize;
+    check_list(n, list)?;
+    let done = run(p, n, network.arcs, r, list);
     if (done as usize) < list.len() {
         let refusal = Refusal::Sum {
             which: 0,

@@ -1,20 +1,18 @@
 use Rattle.std.proofs.Common.{rules}
 use Rattle.guards.specs.OnNetwork.{on_network}
-use Rattle.handover.proofs.Order.{handover_stops, squares, own_then, handover_given}
+use Rattle.handover.proofs.Order.{handover_stops, own_then, handover_given}
 use Rattle.handover.proofs.checks.ready.Goals as goal
 
-pub first_malformed-arcs-requires : goal.first_malformed-arcs-requires
-first_malformed-arcs-requires c = let s = c.args in (squares (on_network s.l s.n s.a.now) s.standing.now s.newer.now s.i c.check_nodes.ensures c.check_length.ensures c.check_length-2.ensures c.and-matrices.ensures c.check_length-3.ensures c.and-lengths.ensures c.in_ok-p.p c.in_ok-p.ensures).0
-
 pub returns-in_err-p : goal.returns-in_err-p
-returns-in_err-p c = let s = c.args in
-    let e = handover_stops (on_network s.l s.n s.a.now) s.standing.now s.newer.now s.i c.check_nodes.ensures c.check_length.ensures c.check_length-2.ensures c.and-matrices.ensures c.check_length-3.ensures c.and-lengths.ensures c.in_err-p.ensures in
+returns-in_err-p c = let s = c.network.inside in
+    let e = handover_stops (on_network s.language s.n s.arcs.now) c.args.standing.now c.args.newer.now c.args.i c.check_nodes.ensures c.check_length.ensures c.check_length-2.ensures c.and-matrices.ensures c.check_length-3.ensures c.and-lengths.ensures c.in_err-p.ensures in
     search rules
 
 pub returns-in_err-and : goal.returns-in_err-and
-returns-in_err-and c = let s = c.args in
-    let e = own_then (on_network s.l s.n s.a.now) s.standing.now s.newer.now s.i c.check_nodes.ensures c.check_length.ensures c.check_length-2.ensures c.and-matrices.ensures c.check_length-3.ensures c.and-lengths.ensures c.in_ok-p.p c.in_ok-p.ensures c.first_malformed-arcs.ensures c.check_node.ensures c.and.ensures c.in_err-and.was in
+returns-in_err-and c = let s = c.network.inside in
+    let e = own_then (on_network s.language s.n s.arcs.now) c.args.standing.now c.args.newer.now c.args.i c.check_nodes.ensures c.check_length.ensures c.check_length-2.ensures c.and-matrices.ensures c.check_length-3.ensures c.and-lengths.ensures c.in_ok-p.p c.in_ok-p.ensures c.first_malformed-arcs.ensures c.check_node.ensures c.and.ensures c.in_err-and.was in
     search rules
 
 pub returns : goal.returns
-returns c = let s = c.args in handover_given (on_network s.l s.n s.a.now) s.standing.now s.newer.now s.i c.check_nodes.ensures c.check_length.ensures c.check_length-2.ensures c.and-matrices.ensures c.check_length-3.ensures c.and-lengths.ensures c.in_ok-p.p c.in_ok-p.ensures c.first_malformed-arcs.ensures c.check_node.ensures c.and.ensures c.in_ok-and.was
+returns c = let s = c.network.inside in
+    rw (← c.network.view_is) (handover_given (on_network s.language s.n s.arcs.now) c.args.standing.now c.args.newer.now c.args.i c.check_nodes.ensures c.check_length.ensures c.check_length-2.ensures c.and-matrices.ensures c.check_length-3.ensures c.and-lengths.ensures c.in_ok-p.p c.in_ok-p.ensures c.first_malformed-arcs.ensures c.check_node.ensures c.and.ensures c.in_ok-and.was)

@@ -1,23 +1,18 @@
 use Rattle.std.proofs.Common.{rules}
 use Rattle.guards.specs.OnNetwork.{on_network}
-use Rattle.hops.proofs.Answers.{refused_before, pair_refused, pair_in, found_row}
+use Rattle.hops.proofs.Answers.{pair_refused, pair_in, found_row}
 use Rattle.hops.proofs.next_hop.next_hop.Goals as goal
 
 pub hop-requires : goal.hop-requires
-hop-requires c = let s = c.args in let said = c.in_ok-p.ensures in
-    let pair = pair_in (on_network s.l s.n s.a.now) s.r.now s.i s.j said.0 c.check_node.ensures c.check_node-2.ensures c.and.ensures c.in_ok-p.p said.1 said.2 c.in_ok-and.was in
+hop-requires c = let s = c.network.inside in let said = rw (← c.network.view_is) at c.in_ok-p.ensures in
+    let pair = pair_in (on_network s.language s.n s.arcs.now) c.args.r.now c.args.i c.args.j said.0 c.check_node.ensures c.check_node-2.ensures c.and.ensures c.in_ok-p.p said.1 said.2 c.in_ok-and.was in
     (said.2, pair.0, pair.1)
 
-pub returns-in_err-p : goal.returns-in_err-p
-returns-in_err-p c = let s = c.args in
-    let e = refused_before (on_network s.l s.n s.a.now) s.r.now s.i s.j _ c.in_err-p.ensures in
-    search rules
-
 pub returns-in_err-and : goal.returns-in_err-and
-returns-in_err-and c = let s = c.args in let said = c.in_ok-p.ensures in
-    let e = pair_refused (on_network s.l s.n s.a.now) s.r.now s.i s.j said.0 c.check_node.ensures c.check_node-2.ensures c.and.ensures _ c.in_err-and.was in
+returns-in_err-and c = let s = c.network.inside in let said = rw (← c.network.view_is) at c.in_ok-p.ensures in
+    let e = pair_refused (on_network s.language s.n s.arcs.now) c.args.r.now c.args.i c.args.j said.0 c.check_node.ensures c.check_node-2.ensures c.and.ensures _ c.in_err-and.was in
     search rules
 
 pub returns : goal.returns
-returns c = let s = c.args in let said = c.in_ok-p.ensures in
-    found_row (on_network s.l s.n s.a.now) s.r.now s.i s.j said.0 c.check_node.ensures c.check_node-2.ensures c.and.ensures c.in_ok-p.p said.1 said.2 c.in_ok-and.was c.hop.result c.hop.ensures
+returns c = let s = c.network.inside in let said = rw (← c.network.view_is) at c.in_ok-p.ensures in
+    rw (← c.network.view_is) (found_row (on_network s.language s.n s.arcs.now) c.args.r.now c.args.i c.args.j said.0 c.check_node.ensures c.check_node-2.ensures c.and.ensures c.in_ok-p.p said.1 said.2 c.in_ok-and.was c.hop.result c.hop.ensures)
