@@ -15,7 +15,7 @@ use Rattle.matrices.specs.Buffers.{Square}
 use Rattle.tables.specs.Tables.{Sized}
 use Rattle.forwarding.specs.Calls.{forward_check, forward_left, OnTables, on_tables}
 use Rattle.files.specs.Answers.{problem_read, ReadSays}
-use Rattle.std.specs.Prelude.{Ok, Err}
+use Rattle.std.specs.Prelude.{Err}
 use Rattle.encoded.proofs.Sizes.{head_in_ranges}
 use Rattle.encoded.proofs.WellFormed.{done_means}
 use Rattle.decimals.specs.Texts.{Put}
