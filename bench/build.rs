@@ -65,13 +65,15 @@ fn module(crates: &Path, name: &str) -> String {
     let lines = plain_lines(&source.join("lib.rt"));
     let mut text = format!("pub mod {name} {{\n");
     for line in lines {
-        match line
-            .strip_prefix("pub mod ")
-            .and_then(|rest| rest.strip_suffix(';'))
-        {
+        let file = line.strip_suffix(';').and_then(|line| {
+            let public = line.strip_prefix("pub mod ");
+            public.or_else(|| line.strip_prefix("mod "))
+        });
+        match file {
             Some(file) => {
                 let inner = plain_lines(&source.join(format!("{file}.rt")));
-                text += &format!("pub mod {file} {{\n{}\n}}\n", inner.join("\n"));
+                let start = line.trim_end_matches(';');
+                text += &format!("{start} {{\n{}\n}}\n", inner.join("\n"));
             }
             None => text += &(line + "\n"),
         }
@@ -79,33 +81,38 @@ fn module(crates: &Path, name: &str) -> String {
     text + "}\n"
 }
 
-/// The lines of a file without contracts; types are copied, as they are in the library's language.
+/// The lines of a file without its contracts, models and ghost lines; what is left is Rust and copied as it is.
 fn plain_lines(file: &Path) -> Vec<String> {
     let text =
         fs::read_to_string(file).unwrap_or_else(|fault| panic!("{}: {fault}", file.display()));
     let mut lines = Vec::new();
+    let mut in_model = false;
     for line in text.lines() {
-        let inner = line.trim_start();
-        let contract = inner.starts_with("requires ") || inner.starts_with("ensures ");
-        let marked = ["#![tactic(", "#[tactic(", "#[derive("]
-            .iter()
-            .any(|mark| line.starts_with(mark));
-        if contract || marked || line.starts_with("ghost use ") {
-            continue;
-        }
-        if ["pub struct ", "pub enum ", "struct ", "enum "]
-            .iter()
-            .any(|word| line.starts_with(word))
-        {
-            lines.push("#[derive(Clone, Copy, PartialEq, Eq, Debug)]".to_string());
-        }
-        lines.push(
-            CRATES
+        in_model |= line.starts_with("impl") && line.contains(" Model for ");
+        if !in_model && !is_for_the_prover(line) {
+            let rooted = CRATES
                 .iter()
-                .fold(line.to_string(), |line, name| rooted(&line, name)),
-        );
+                .fold(line.to_string(), |line, name| rooted(&line, name));
+            lines.push(rooted);
+        }
+        in_model &= line != "}";
     }
     lines
+}
+
+/// A contract, a ghost line, a mark of the prover, or the import of a model; each stands in a line of its own.
+fn is_for_the_prover(line: &str) -> bool {
+    let starts = [
+        "requires ",
+        "ensures ",
+        "ghost ",
+        "#![tactic(",
+        "#[tactic(",
+        "#[derive(Drop)]",
+        "use std::marker::Model;",
+    ];
+    let inner = line.trim_start();
+    starts.iter().any(|start| inner.starts_with(start))
 }
 
 /// Paths that begin with a crate's name begin with its module instead.

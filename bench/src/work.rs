@@ -1,8 +1,7 @@
 //! The work that is timed, done by each of three implementations, with results that have to be equal.
 
-use crate::equal::files::ReadAnswer;
-use crate::equal::handover::LenderAnswer;
-use crate::equal::refusals::Answer;
+use crate::equal::forwarding::Tables;
+use crate::equal::handover::Lender;
 use crate::equal::weights::Language;
 use crate::networks::{fresh, plain_matrix, plain_table, Named, Network, ONES};
 use crate::plain;
@@ -154,44 +153,40 @@ impl Bench {
     pub fn equal(&mut self) -> u32 {
         use crate::equal;
         let square = self.square();
+        let network = equal::guards::network::Network {
+            language: self.equal,
+            n: self.n,
+            arcs: &self.arcs,
+        };
         match self.work {
             Work::Sweeps | Work::Settle => {
                 let r = &mut self.written[..square];
                 r.copy_from_slice(&self.fresh);
-                match equal::steps::steps(self.equal, self.n, &self.arcs, r, &self.list) {
-                    equal::routes::StepsAnswer::Done(count) => count,
-                    equal::routes::StepsAnswer::Refused { .. } => 0,
-                }
+                equal::steps::steps(&network, r, &self.list).unwrap_or(0)
             }
             Work::Forward => {
                 let f = &mut self.table[..self.mapping.len()];
-                let (l, n, m) = (self.equal, self.n, self.m);
-                let (a, r) = (&self.arcs, &self.best);
-                let answer =
-                    equal::forwarding::forward::forward(l, n, m, 3, a, r, &self.mapping, f);
-                u32::from(answer != Answer::Done)
+                let tables = Tables {
+                    network,
+                    m: self.m,
+                    mode: 3,
+                    routes: &self.best,
+                    mapping: &self.mapping,
+                };
+                u32::from(equal::forwarding::forward::forward(&tables, f).is_err())
             }
             Work::Handover => {
-                let (arcs, best) = (&self.arcs, &self.best);
-                let answer = equal::handover::lending::lender(
-                    self.equal,
-                    self.n,
-                    arcs,
-                    &self.fresh,
-                    best,
-                    0,
-                );
-                match answer {
-                    LenderAnswer::Newer => 2,
-                    LenderAnswer::Standing => 5,
-                    LenderAnswer::Refused(_) => 0,
+                let lender = equal::handover::lending::lender;
+                match lender(&network, &self.fresh, &self.best, 0) {
+                    Ok(Lender::Newer) => 2,
+                    Ok(Lender::Standing) => 5,
+                    Err(_) => 0,
                 }
             }
             Work::Read => {
-                match equal::files::reading::read(&self.file, &mut self.written, &mut self.table) {
-                    ReadAnswer::Done { n, .. } => n,
-                    ReadAnswer::Refused(_) => 0,
-                }
+                let (arcs, mapping) = (&mut self.written, &mut self.table);
+                let problem = equal::files::reading::read(&self.file, arcs, mapping);
+                problem.map_or(0, |problem| problem.n)
             }
         }
     }
