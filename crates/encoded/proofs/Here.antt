@@ -15,14 +15,13 @@ use Rattle.weights.specs.Weights.{Sound, SoundLimit}
 use Rattle.weights.specs.Languages.{components_of}
 use Rattle.fields.specs.declared.Found.{Found}
 use Rattle.file_bytes.specs.Bytes.{two_at}
-use Rattle.fields.specs.Nested.{no_language, added, nothing, with_component, with_tag, dist_tag, width_tag, class_tag, gain_tag, product_tag, component_read, after, language_at}
+use Rattle.fields.specs.Nested.{no_language, added, nothing, with_component, with_tag, dist_tag, width_tag, class_tag, gain_tag, product_tag, component_read, after, language_at, taken}
 use Rattle.fields.proofs.Advancing.{read_product, read_component}
 use Rattle.encoded.specs.Encode.{Nesting, one, product, nested, bytes2, component_bytes, language_bytes, language_with}
 use Rattle.encoded.specs.Taken.{found_after}
 use Rattle.std.specs.Prelude.{Result}
 use Rattle.fields.specs.declared.Taken.{Taken}
 use Rattle.refusals.specs.declared.Refusal.{Refusal}
-use Rattle.fields.specs.Nested.{taken}
 
 pub record Here (s : List ℕ) (at x : ℕ) (l : List ℕ) : Type 0 where
   pub is : get_or s at 0 ≡ x

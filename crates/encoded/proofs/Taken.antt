@@ -18,8 +18,8 @@ use Rattle.fields.specs.declared.Found.{Found}
 use Rattle.fields.specs.declared.Head.{Head}
 use Rattle.records.specs.declared.Listing.TheVariants.{Arcs, Attachments}
 use Rattle.file_bytes.specs.Bytes.{two_at, four_at}
-use Rattle.fields.specs.Nested.{nothing, language_at}
-use Rattle.fields.specs.Header.{field_check, mode_field_check, fields_check, head_from, head_read}
+use Rattle.fields.specs.Nested.{nothing, language_at, taken}
+use Rattle.fields.specs.Header.{field_check, mode_field_check, fields_check, head_from, head_read, sound_head}
 use Rattle.records.specs.Records.{record_list_check, list_end, body_check}
 use Rattle.files.specs.File.{count_right, head_once_checked, with_body, file_read}
 use Rattle.fields.proofs.Passing.{field_passes}
@@ -31,12 +31,9 @@ use Rattle.encoded.proofs.Entries.{Counted}
 use Rattle.encoded.proofs.TakenLanguage.{one_more, two_more, two_small, language_of_lem}
 use Rattle.encoded.proofs.TakenLists.{list_of}
 use Rattle.refusals.specs.Checks.{Check}
-use Rattle.std.specs.Prelude.{Ok, Err}
-use Rattle.std.specs.Prelude.{Result}
+use Rattle.std.specs.Prelude.{Ok, Err, Result}
 use Rattle.fields.specs.declared.Taken.{Taken}
 use Rattle.fields.specs.declared.SoundHead.{SoundHead}
-use Rattle.fields.specs.Nested.{taken}
-use Rattle.fields.specs.Header.{sound_head}
 
 -- ---- the head
 

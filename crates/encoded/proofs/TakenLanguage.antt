@@ -17,14 +17,13 @@ use Rattle.weights.specs.Weights.{Sound, SoundLimit}
 use Rattle.weights.specs.Languages.{SmallLimit, SmallLimits}
 use Rattle.fields.specs.declared.Found.{Found}
 use Rattle.file_bytes.specs.Bytes.{two_at}
-use Rattle.fields.specs.Nested.{with_component, with_tag, dist_tag, width_tag, class_tag, gain_tag, product_tag, component_read, after, language_from}
+use Rattle.fields.specs.Nested.{with_component, with_tag, dist_tag, width_tag, class_tag, gain_tag, product_tag, component_read, after, language_from, taken}
 use Rattle.fields.proofs.Advancing.{by_test}
 use Rattle.encoded.specs.Encode.{Nesting, one, product, nested, bytes2, component_bytes, language_bytes}
 use Rattle.encoded.specs.Taken.{AreBytes, found_after}
 use Rattle.encoded.proofs.Here.{products, found_tags}
 use Rattle.std.specs.Prelude.{Result, Ok, Err}
 use Rattle.fields.specs.declared.Taken.{Taken}
-use Rattle.fields.specs.Nested.{taken}
 
 pub one_more : (s : List ℕ) (at : ℕ) → at < length s → drop at s ≡ get_or s at 0 ∷ drop (at + 1) s
 one_more s at h = drop-cons s at 0 h ∙ ap (λ (z : ℕ). get_or s at 0 ∷ drop z s) (sym (add-one at))

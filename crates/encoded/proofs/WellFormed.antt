@@ -30,7 +30,7 @@ use Rattle.file_bytes.specs.Bytes.{two_at}
 use Rattle.records.specs.Records.{length_of, ends_at, ends_check, values_check, record_check, records_check, record_list_check, list_end, body_check}
 use Rattle.files.specs.File.{file_read}
 use Rattle.contents.specs.Contents.{words_each, columns, size_of, values_at, record_weight, outside_at, record_words, is_at, listed_words, listed_table, list_over}
-use Rattle.files.specs.Answers.{Row, read_said, head_row, refused_row, sized, arcs_over, mapping_over, ReadSays}
+use Rattle.files.specs.Answers.{Row, read_said, head_row, refused_row, sized, arcs_over, mapping_over, ReadSays, problem_read}
 use Rattle.contents.proofs.Storing.{listed_wide}
 use Rattle.files.proofs.Bodies.{checked_body}
 use Rattle.encoded.specs.Encode.{SoundValues, SoundOutside}
@@ -42,11 +42,9 @@ use Rattle.encoded.proofs.TakenLists.{values_sound}
 use Rattle.encoded.proofs.Taken.{decode}
 use Rattle.encoded.proofs.Here.{language_has}
 use Rattle.encoded.proofs.Cells.{entry_at_lem}
-use Rattle.std.specs.Prelude.{Ok}
-use Rattle.std.specs.Prelude.{Result, Ok, Err}
+use Rattle.std.specs.Prelude.{Ok, Result, Err}
 use Rattle.fields.specs.declared.SoundHead.{SoundHead}
 use Rattle.fields.specs.Header.{sound_head}
-use Rattle.files.specs.Answers.{problem_read}
 
 -- ---- the values of records that pass
 

@@ -17,22 +17,19 @@ use Rattle.records.specs.declared.Listing.{Listing}
 use Rattle.records.specs.declared.Listing.TheVariants.{Arcs, Attachments}
 use Rattle.file_bytes.specs.Bytes.{two_at, four_at}
 use Rattle.fields.specs.Nested.{nothing}
-use Rattle.fields.specs.Header.{field_check, mode_field_check, fields_check, head_read}
+use Rattle.fields.specs.Header.{field_check, mode_field_check, fields_check, head_read, sound_head}
 use Rattle.records.specs.Records.{length_of, list_end, body_check}
 use Rattle.files.specs.File.{count_right, file_read}
 use Rattle.contents.specs.Contents.{columns, size_of, unlisted, listed_words, listed_table}
-use Rattle.files.specs.Answers.{sized, ReadSays}
+use Rattle.files.specs.Answers.{sized, ReadSays, problem_read}
 use Rattle.matrices.proofs.Blocks.{blocks_cong}
 use Rattle.files.proofs.Answering.{answer_one}
 use Rattle.encoded.specs.Encode.{ListEntry, Problem, SoundEntries, SoundProblem, Nesting, nested, bytes2, language_bytes, entries_bytes, list_bytes, body_bytes, encode, language_with, head_of, put, encoded_table}
 use Rattle.encoded.specs.Taken.{found_after, next_of, GivenBack}
 use Rattle.encoded.proofs.Here.{here, past, two_here, language_here, found_language, language_has, one_more_component}
 use Rattle.encoded.proofs.Entries.{AllSound, Counted, list_here, words_here}
-use Rattle.std.specs.Prelude.{Ok}
-use Rattle.std.specs.Prelude.{Result}
+use Rattle.std.specs.Prelude.{Ok, Result}
 use Rattle.files.specs.declared.Problem.{Problem as ReadProblem}
-use Rattle.fields.specs.Header.{sound_head}
-use Rattle.files.specs.Answers.{problem_read}
 
 field_ok : (s : List ℕ) (at : ℕ) (r : Refusal) (lo hi v : ℕ) → at < length s → get_or s at 0 ≡ v → lo ≤ v → v ≤ hi → field_check s at r lo hi ≡ Ok tt
 unfolding field_check

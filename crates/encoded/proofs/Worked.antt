@@ -7,13 +7,12 @@ use Rattle.weights.specs.Words.{words}
 use Rattle.records.specs.declared.Listing.TheVariants.{Arcs, Attachments}
 use Rattle.file_bytes.specs.Bytes.{two_at}
 use Rattle.fields.specs.Nested.{added, component_read, language_from}
-use Rattle.fields.specs.Header.{field_check, fields_check, head_read}
+use Rattle.fields.specs.Header.{field_check, fields_check, head_read, sound_head}
 use Rattle.records.specs.Records.{record_length, ends_check, values_check, record_check, records_check, record_list_check, list_end, body_check}
 use Rattle.files.specs.File.{file_read}
 use Rattle.matrices.specs.Buffers.{blocks}
 use Rattle.contents.specs.Contents.{outside_at, listed_words, listed_table}
 use Rattle.files.specs.PrintedFile.{printed_file, printed_head}
-use Rattle.fields.specs.Header.{sound_head}
 
 pub printed_read : file_read (printed_file 3) ≡ sound_head 9 (printed_head 3)
 unfolding file_read head_read fields_check field_check language_from component_read added two_at body_check record_list_check list_end records_check record_check record_length ends_check values_check

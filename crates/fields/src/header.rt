@@ -5,7 +5,7 @@ ghost use Rattle.fields.specs.Header.{field_check, mode_field_check, fields_chec
 ghost use Rattle.fields.specs.Parts.{SmallHeadRead};
 
 use super::languages::language;
-use super::{Found, Head, SoundHead};
+use super::{Found, Head, SoundHead, Taken};
 use file_bytes::byte;
 use refusals::Refusal;
 use weights::{Component, Language};
@@ -72,15 +72,12 @@ pub fn header(file: &[u8]) -> Result<SoundHead, Refusal>
     ensures small_head_read { SmallHeadRead file.now result }
 {
     fields_check(file)?;
-    let read = language(file, 8, nothing())?;
+    let Taken { next, found } = language(file, 8, nothing())?;
     let head = Head {
         n: byte(file, 5) as usize,
         m: byte(file, 6) as usize,
         mode: byte(file, 7),
-        language: read.found.language,
+        language: found.language,
     };
-    Ok(SoundHead {
-        next: read.next,
-        head,
-    })
+    Ok(SoundHead { next, head })
 }

@@ -157,6 +157,6 @@ pub fn language(file: &[u8], at: u32, found: Found) -> Result<Taken, Refusal>
             place: at,
         });
     }
-    let left = language(file, at + 1, with_tag(found))?;
-    language(file, left.next, left.found)
+    let Taken { next, found } = language(file, at + 1, with_tag(found))?;
+    language(file, next, found)
 }

@@ -12,11 +12,10 @@ use Rattle.records.specs.declared.Listing.TheVariants.{Arcs, Attachments}
 use Rattle.records.specs.Records.{list_end}
 use Rattle.files.specs.File.{file_read}
 use Rattle.contents.specs.Contents.{list_over}
-use Rattle.files.specs.Answers.{Row, read_said, sized, ReadSays}
+use Rattle.files.specs.Answers.{Row, read_said, sized, ReadSays, problem_read}
 use Rattle.std.specs.Prelude.{Result, Ok, Err}
 use Rattle.files.specs.declared.Problem.{Problem}
 use Rattle.fields.specs.Header.{sound_head}
-use Rattle.files.specs.Answers.{problem_read}
 
 module _ (s a m : List ℕ) where
   pub short_arcs_lem : length a < 1024 → ReadSays s a m a m (Err (Length 1 0))

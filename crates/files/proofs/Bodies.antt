@@ -7,14 +7,12 @@ use native.Mathlib.Omega.{arith}
 use Rattle.refusals.specs.declared.Refusal.{Refusal}
 use Rattle.refusals.specs.declared.Refusal.TheVariants.{Bytes}
 use Rattle.fields.specs.declared.Head.{Head}
-use Rattle.fields.specs.Header.{head_read}
+use Rattle.fields.specs.Header.{head_read, sound_head}
 use Rattle.records.specs.Records.{body_check}
 use Rattle.files.specs.File.{count_right, head_once_checked, with_body, file_read}
 use Rattle.refusals.specs.Checks.{Check}
-use Rattle.std.specs.Prelude.{Ok, Err}
-use Rattle.std.specs.Prelude.{Result}
+use Rattle.std.specs.Prelude.{Ok, Err, Result}
 use Rattle.fields.specs.declared.SoundHead.{SoundHead}
-use Rattle.fields.specs.Header.{sound_head}
 
 -- a head that is refused is not taken
 pub never_sound : {X : Type 0} {r : Refusal} {next : ℕ} {h : Head} → Err r ≡ sound_head next h → X

@@ -25,8 +25,7 @@ use Rattle.records.proofs.Cases.{body_exact, body_check_lem}
 use Rattle.files.specs.File.{count_right, head_once_checked, with_body, file_read}
 use Rattle.files.specs.Answers.{head_row, refused_row, sized, file_row}
 use Rattle.files.specs.Cases.{short_case, bytes_case, after_language_cases, file_cases, read_cases}
-use Rattle.std.specs.Prelude.{Ok, Err}
-use Rattle.std.specs.Prelude.{Result}
+use Rattle.std.specs.Prelude.{Ok, Err, Result}
 use Rattle.fields.specs.declared.Taken.{Taken}
 use Rattle.refusals.specs.declared.Refusal.{Refusal}
 

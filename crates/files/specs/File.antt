@@ -4,12 +4,11 @@ use Rattle.std.specs.Prelude.{ℕ, ◌-◌, Bool, cond, ◌&&◌, List, leb, eqb
 use Rattle.refusals.specs.declared.Refusal.TheVariants.{Bytes}
 use Rattle.fields.specs.declared.Head.{Head}
 use Rattle.file_bytes.specs.Bytes.{four_at}
-use Rattle.fields.specs.Header.{head_read}
+use Rattle.fields.specs.Header.{head_read, sound_head}
 use Rattle.records.specs.Records.{body_check}
 use Rattle.refusals.specs.Checks.{Check}
 use Rattle.fields.specs.declared.SoundHead.{SoundHead}
 use Rattle.refusals.specs.declared.Refusal.{Refusal}
-use Rattle.fields.specs.Header.{sound_head}
 
 -- the four bytes of the count are there, and count the bytes after them
 abbrev pub count_right : List ℕ → Bool

@@ -11,16 +11,15 @@ use Rattle.refusals.proofs.OneToOne.{told_not_done}
 use Rattle.weights.specs.declared.Language.{Language}
 use Rattle.weights.specs.Sizes.{weight_words, entry_words}
 use Rattle.fields.specs.declared.Head.{Head}
-use Rattle.fields.specs.declared.HeadRead.{HeadRead}
-use Rattle.fields.specs.declared.HeadRead.TheVariants.{Sound, Refused as Faulty}
+use Rattle.fields.specs.declared.SoundHead.{SoundHead}
+use Rattle.std.specs.Prelude.{Result, Ok, Err}
 use Rattle.file_bytes.specs.Bytes.{two_at}
 use Rattle.records.specs.declared.Listing.{Listing}
 use Rattle.records.specs.declared.Listing.TheVariants.{Arcs, Attachments}
 use Rattle.records.specs.Records.{list_end}
-use Rattle.files.specs.declared.ReadAnswer.TheVariants.{Done, Refused}
+use Rattle.files.specs.Answers.{problem_read, Row, head_row, sized, ReadSays}
 use Rattle.files.specs.File.{file_read}
 use Rattle.contents.specs.Contents.{words_each, columns, size_of, listed_words, listed_table, list_over}
-use Rattle.files.specs.Answers.{Row, head_row, sized, ReadSays}
 use Rattle.contents.proofs.Tables.{length_grid}
 use Rattle.contents.proofs.Storing.{listed_wide}
 use Rattle.encoded.proofs.WellFormed.{done_means}
@@ -45,7 +44,7 @@ list_lent s h list at buffer =
 
 module _ (s a m a' m' : List ℕ) where
   -- after a read that is done the text is that of the parts of the two buffers
-  pub text_done : (n k mode : ℕ) (l : Language) → ReadSays s a m a' m' (Done n k mode l)
+  pub text_done : (n k mode : ℕ) (l : Language) → ReadSays s a m a' m' (problem_read n k mode l)
       → printed s ≡ text_of (on_network l n (take (n * (n * weight_words)) a')) k mode (take (n * (k * entry_words)) m')
   unfolding printed size_of
   text_done n k mode l w =
@@ -65,10 +64,10 @@ module _ (s a m a' m' : List ℕ) where
       ∙ ap (λ (x : Language). text_of (on_network x n (take (n * (n * weight_words)) a')) k mode (take (n * (k * entry_words)) m')) d.language_is
 
   -- where the buffers are long enough, a refusal is the file's own
-  pub text_refused : (r : Refusal) → 1024 ≤ length a → 2560 ≤ length m → ReadSays s a m a' m' (Refused r) → printed s ≡ refused_line (told r)
+  pub text_refused : (r : Refusal) → 1024 ≤ length a → 2560 ≤ length m → ReadSays s a m a' m' (Err r) → printed s ≡ refused_line (told r)
   unfolding printed sized
   text_refused r g h w = go (file_read s) (rw (le-ltb _ _ g, le-ltb _ _ h) at (ap (λ (x : Row). x.told) w.answer))
     where
-      go : (x : HeadRead) → told r ≡ (head_row x).told → text_read s x ≡ refused_line (told r)
-      go (Sound next k) e = absurd (told_not_done r e)
-      go (Faulty q) e = ap refused_line (sym e)
+      go : (x : Result SoundHead Refusal) → told r ≡ (head_row x).told → text_read s x ≡ refused_line (told r)
+      go (Ok k) e = absurd (told_not_done r e)
+      go (Err q) e = ap refused_line (sym e)

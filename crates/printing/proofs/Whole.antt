@@ -14,8 +14,8 @@ use Rattle.weights.specs.Sizes.{places, weight_words, entry_words}
 use Rattle.matrices.specs.Buffers.{Square}
 use Rattle.tables.specs.Tables.{Sized}
 use Rattle.forwarding.specs.Calls.{forward_check, forward_left, OnTables, on_tables}
-use Rattle.files.specs.declared.ReadAnswer.TheVariants.{Done, Refused}
-use Rattle.files.specs.Answers.{ReadSays}
+use Rattle.files.specs.Answers.{problem_read, ReadSays}
+use Rattle.std.specs.Prelude.{Err}
 use Rattle.encoded.proofs.Sizes.{head_in_ranges}
 use Rattle.encoded.proofs.WellFormed.{done_means}
 use Rattle.decimals.specs.Texts.{Put}
@@ -77,11 +77,11 @@ module _ (N : OnNetwork) (m mode : ℕ) (s : List ℕ) {x y : List ℕ} {end : �
 
 module _ (s a m a' m' : List ℕ) where
   -- a bad file
-  pub refused_text : {x y : List ℕ} {end : ℕ} (r : Refusal) (t : Told) → 1024 ≤ length a → 2560 ≤ length m → ReadSays s a m a' m' (Refused r) → t ≡ told r
+  pub refused_text : {x y : List ℕ} {end : ℕ} (r : Refusal) (t : Told) → 1024 ≤ length a → 2560 ≤ length m → ReadSays s a m a' m' (Err r) → t ≡ told r
       → Put 41 x 0 (refused_line t) y end → Put 57976 x 0 (printed s) y end
   refused_text r t g h w e p = put_as p (ap refused_line e ∙ sym (text_refused s a m a' m' r g h w)) (omega arith)
 
-  module _ (n k mode : ℕ) (l : Language) (w : ReadSays s a m a' m' (Done n k mode l)) where
+  module _ (n k mode : ℕ) (l : Language) (w : ReadSays s a m a' m' (problem_read n k mode l)) where
     pub done_text : {x y : List ℕ} {end : ℕ} → Put 57976 x 0 (text_of (on_network l n (take (n * (n * weight_words)) a')) k mode (take (n * (k * entry_words)) m')) y end
         → Put 57976 x 0 (printed s) y end
     done_text p = put_as p (sym (text_done s a m a' m' n k mode l w)) (omega arith)

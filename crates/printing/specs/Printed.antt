@@ -1,6 +1,7 @@
 -- The printed text (01, "The printed case"), part after part.
 -- To be believed: all of it.
-use Rattle.std.specs.Prelude.{ℕ, ◌+◌, Bool, true, false, cond, List, [], ◌++◌, eqb, length}
+use Rattle.std.specs.Prelude.{ℕ, ◌+◌, Bool, true, false, cond, List, [], ◌++◌, eqb, length, Result, Ok, Err}
+use Rattle.refusals.specs.declared.Refusal.{Refusal}
 use Rattle.refusals.specs.declared.Refusal.TheVariants.{Bytes}
 use Rattle.refusals.specs.declared.Told.{Told}
 use Rattle.refusals.specs.Told.{told}
@@ -8,8 +9,7 @@ use Rattle.weights.specs.declared.Language.{Language}
 use Rattle.weights.specs.Languages.{components_of}
 use Rattle.laws.specs.Report.{report}
 use Rattle.tables.specs.Tables.{table_in}
-use Rattle.fields.specs.declared.HeadRead.{HeadRead}
-use Rattle.fields.specs.declared.HeadRead.TheVariants.{Sound, Refused as Faulty}
+use Rattle.fields.specs.declared.SoundHead.{SoundHead}
 use Rattle.records.specs.declared.Listing.TheVariants.{Arcs, Attachments}
 use Rattle.records.specs.Records.{list_end}
 use Rattle.file_bytes.specs.Bytes.{two_at}
@@ -53,11 +53,11 @@ unfoldable pub text_of : OnNetwork → ℕ → ℕ → List ℕ → List ℕ
 text_of N m mode mapping = text_with (on_tables N m mode (routes_left N (blank N.n)) mapping)
 
 -- a bad file's refusal in place of everything
-abbrev pub text_read : List ℕ → HeadRead → List ℕ
-text_read s (Faulty r) = refused_line (told r)
-text_read s (Sound next h) =
-    text_of (on_network h.language h.n (listed_table s h Arcs (next + 2) (two_at s next))) h.m h.mode
-    (listed_table s h Attachments (list_end s h Arcs next + 2) (two_at s (list_end s h Arcs next)))
+abbrev pub text_read : List ℕ → Result SoundHead Refusal → List ℕ
+text_read s (Err r) = refused_line (told r)
+text_read s (Ok t) =
+    text_of (on_network t.head.language t.head.n (listed_table s t.head Arcs (t.next + 2) (two_at s t.next))) t.head.m t.head.mode
+    (listed_table s t.head Attachments (list_end s t.head Arcs t.next + 2) (two_at s (list_end s t.head Arcs t.next)))
 
 -- The text printed of a file of at most 65,536 bytes.
 unfoldable pub printed : List ℕ → List ℕ

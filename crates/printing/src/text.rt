@@ -8,9 +8,10 @@ ghost use Rattle.printing.specs.Printed.{text_of, printed, printed_input};
 
 use super::parts::put_text;
 use super::work::{work_routes, work_table};
-use files::ReadAnswer;
 use files::reading::read;
-use refusals::{Refusal, tell};
+use forwarding::Tables;
+use guards::network::Network;
+use refusals::{Refusal, Told};
 use texts::lines::put_refused_line;
 use weights::{ENTRY_WORDS, Language, WEIGHT_WORDS};
 
@@ -29,8 +30,20 @@ fn put_worked(
     requires { (0 < n) × (n ≤ 16) × (m ≤ 32) × (l.count ≤ places) × (r.old ≡ blank n) × (f.old ≡ blank_table n m) × (65536 ≤ length out.old) }
     ensures { Put 57976 out.old 0 (text_of (on_network l n a.now) m mode mapping.now) out.new result }
 {
-    let routes = work_routes(l, n, a, r);
-    let table = work_table(l, n, m, mode, a, r, mapping, f);
+    let network = Network {
+        language: l,
+        n: n as u32,
+        arcs: a,
+    };
+    let routes = work_routes(&network, r);
+    let tables = Tables {
+        network,
+        m: m as u32,
+        mode,
+        routes: r,
+        mapping,
+    };
+    let table = work_table(&tables, f);
     put_text(l, n, m, mode, routes, r, table, f, out)
 }
 
@@ -71,19 +84,17 @@ pub fn print_text(file: &[u8], out: &mut [u8]) -> usize
 {
     let mut arcs = [0u32; 1024];
     let mut mapping = [0u32; 2560];
-    let answer = read(file, &mut arcs, &mut mapping);
-    match answer {
-        ReadAnswer::Refused(x) => {
-            return put_refused_line(tell(x), 0, out);
-        }
-        ReadAnswer::Done {
-            n,
-            m,
-            mode,
-            language,
-        } => {
-            return put_network(language, n as usize, m as usize, mode, &arcs, &mapping, out);
-        }
+    match read(file, &mut arcs, &mut mapping) {
+        Ok(problem) => put_network(
+            problem.language,
+            problem.n as usize,
+            problem.m as usize,
+            problem.mode,
+            &arcs,
+            &mapping,
+            out,
+        ),
+        Err(x) => put_refused_line(Told::from(x), 0, out),
     }
 }
 
@@ -93,8 +104,9 @@ pub fn print_input(file: &[u8], more: bool, out: &mut [u8]) -> usize
     ensures { Put 57976 out.old 0 (printed_input more file.now) out.new result }
 {
     if more {
-        let over = tell(Refusal::Bytes { which: 0, place: 0 });
-        return put_refused_line(over, 0, out);
+        let over = Refusal::Bytes { which: 0, place: 0 };
+        put_refused_line(Told::from(over), 0, out)
+    } else {
+        print_text(file, out)
     }
-    print_text(file, out)
 }

@@ -1,16 +1,15 @@
 // The work: a list of sweeps over all rows, run from fresh; then the forwarding table.
 ghost use Rattle.std.specs.Prelude.{◌≡◌, ◌+◌, ◌-◌, ◌*◌, ◌≤◌, ◌<◌, length};
 ghost use Rattle.decimals.specs.Texts.{Put};
-ghost use Rattle.guards.specs.OnNetwork.{on_network};
-ghost use Rattle.forwarding.specs.Calls.{on_tables};
+ghost use Rattle.refusals.specs.Checks.{answer_told};
 ghost use Rattle.printing.specs.Work.{sweep_list, sweeps_list, routes_told, routes_left, table_told, table_left};
 
+use forwarding::Tables;
 use forwarding::forward::forward;
-use refusals::{Answer, Told, tell};
-use routes::StepsAnswer;
+use guards::network::Network;
+use refusals::{Refusal, Told};
 use routes::fresh::fresh;
 use steps::steps;
-use weights::Language;
 
 // Puts 0..n-1 from `at` on.
 fn put_sweep(n: usize, at: usize, list: &mut [u32])
@@ -27,70 +26,50 @@ fn put_sweeps(n: usize, list: &mut [u32])
     requires { (0 < n) × (n ≤ 16) × (240 ≤ length list.old) }
     ensures { Put ((n - 1) * n) list.old 0 (sweeps_list n) list.new ((n - 1) * n) }
 {
-    let rounds = n - 1;
-    for t in 0..rounds {
+    for t in 0..n - 1 {
         put_sweep(n, t * n, list);
     }
 }
 
-// Sweeps all rows n-1 times from fresh, on a buffer r; returns what the two calls tell.
-pub fn work_routes(l: Language, n: usize, a: &[u32], r: &mut [u32]) -> Told
-    requires { (0 < n) × (n ≤ 16) }
-    ensures value { result ≡ routes_told (on_network l n a.now) r.old }
-    ensures r_after { r.new ≡ routes_left (on_network l n a.now) r.old }
+// The row of an answer that gives no number.
+fn told(answer: Result<(), Refusal>) -> Told
+    ensures { result ≡ answer_told answer }
 {
-    let mut list = [0u32; 240];
-    put_sweeps(n, &mut list);
-    let answer = fresh(l, n as u32, r);
     match answer {
-        Answer::Refused(x) => {
-            return tell(x);
-        }
-        Answer::Done => {
-            let count = (n - 1) * n;
-            let ran = steps(l, n as u32, a, r, &list[..count]);
-            match ran {
-                StepsAnswer::Done(_) => {
-                    return Told {
-                        number: 0,
-                        which: 0,
-                        place: 0,
-                    };
-                }
-                StepsAnswer::Refused { refusal, done } => {
-                    return tell(refusal);
-                }
-            }
-        }
+        Ok(()) => Told::DONE,
+        Err(x) => Told::from(x),
     }
 }
 
-// Applies the routes r to a mapping table, into a buffer f; returns what the call tells.
-pub fn work_table(
-    l: Language,
-    n: usize,
-    m: usize,
-    mode: u32,
-    a: &[u32],
-    r: &[u32],
-    mapping: &[u32],
-    f: &mut [u32],
-) -> Told
-    requires { (n ≤ 16) × (m ≤ 32) }
-    ensures value { result ≡ table_told (on_tables (on_network l n a.now) m mode r.now mapping.now) f.old }
-    ensures f_after { f.new ≡ table_left (on_tables (on_network l n a.now) m mode r.now mapping.now) f.old }
+// Sweeps all rows n-1 times from fresh, on a buffer r.
+fn sweep(network: &Network<'_>, r: &mut [u32]) -> Result<(), Refusal>
+    requires { (0 < network.now.n) × (network.now.n ≤ 16) }
+    ensures value { answer_told result ≡ routes_told network.now r.old }
+    ensures r_after { r.new ≡ routes_left network.now r.old }
 {
-    let answer = forward(l, n as u32, m as u32, mode, a, r, mapping, f);
-    match answer {
-        Answer::Refused(x) => {
-            return tell(x);
-        }
-        Answer::Done => {
-            return Told {
-                number: 0,
-                which: 0,
-                place: 0,
-            };
-        }
+    let n = network.n as usize;
+    let mut list = [0u32; 240];
+    put_sweeps(n, &mut list);
+    fresh(network.language, network.n, r)?;
+    match steps(network, r, &list[..(n - 1) * n]) {
+        Ok(_) => Ok(()),
+        Err(stopped) => Err(stopped.refusal),
     }
+}
+
+// Sweeps all rows n-1 times from fresh, on a buffer r; returns what the two calls tell.
+pub fn work_routes(network: &Network<'_>, r: &mut [u32]) -> Told
+    requires { (0 < network.now.n) × (network.now.n ≤ 16) }
+    ensures value { result ≡ routes_told network.now r.old }
+    ensures r_after { r.new ≡ routes_left network.now r.old }
+{
+    told(sweep(network, r))
+}
+
+// Applies the routes to a mapping table, into a buffer f; returns what the call tells.
+pub fn work_table(tables: &Tables<'_>, f: &mut [u32]) -> Told
+    ensures value { result ≡ table_told tables.now f.old }
+    ensures f_after { f.new ≡ table_left tables.now f.old }
+{
+    told(forward(tables, f))
 }

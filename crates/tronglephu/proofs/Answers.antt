@@ -26,8 +26,7 @@ use Rattle.guards.proofs.Singles.{nodes_passed}
 use Rattle.hops.specs.Calls.{HopRow, hop_row, hop_said, hop_cases}
 use Rattle.hops.proofs.Exact.{hop_given}
 use Rattle.handover.specs.Calls.{handover_check, is_best, row_part, lent_row}
-use Rattle.files.specs.declared.ReadAnswer.TheVariants.{Done, Refused as ReadRefused}
-use Rattle.files.specs.Answers.{Row, file_row, arcs_after, mapping_after, ReadSays}
+use Rattle.files.specs.Answers.{problem_read, Row, file_row, arcs_after, mapping_after, ReadSays}
 use Rattle.door.specs.declared.Reply.{Reply}
 use Rattle.door.specs.Replies.{reply_of}
 use Rattle.door.specs.Reports.{report_words, laws_words, held_laws}
@@ -89,10 +88,10 @@ module _ (file arcs mapping problem : List ℕ) where
       p ∙ ap (λ (w : Row). problem_after w problem) f ∙ ap (λ (c : Check). if_passed c (problem_after (file_row file arcs mapping) problem) problem) (sym e),
     )
 
-    pub read_refused : (r : Refusal) → ReadSays file arcs mapping arcs' mapping' (ReadRefused r) → Reads (reply_of (told r) 0) arcs' mapping' problem
+    pub read_refused : (r : Refusal) → ReadSays file arcs mapping arcs' mapping' (Err r) → Reads (reply_of (told r) 0) arcs' mapping' problem
     read_refused r s = by_row _ problem s.answer s.arcs_hold s.mapping_holds (rw (refusal_not_done r))
 
-    pub read_done : (n m mode : ℕ) (l : Language) (problem' : List ℕ) → ReadSays file arcs mapping arcs' mapping' (Done n m mode l)
+    pub read_done : (n m mode : ℕ) (l : Language) (problem' : List ℕ) → ReadSays file arcs mapping arcs' mapping' (problem_read n m mode l)
         → problem' ≡ problem_of n m mode l ++ drop problem_words problem → Reads (reply_of done 0) arcs' mapping' problem'
     read_done n m mode l problem' s p = by_row _ problem' s.answer s.arcs_hold s.mapping_holds p
 

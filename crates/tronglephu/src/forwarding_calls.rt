@@ -8,8 +8,9 @@ ghost use Rattle.tronglephu.specs.Calls.{forward_reply, hop_reply, handover_repl
 use door::languages::language;
 use door::replies::{answered, done, refused};
 use door::{NEWER, NO_NODE, Reply, STANDING};
-use handover::LenderAnswer;
-use hops::HopAnswer;
+use forwarding::Tables;
+use guards::network::Network;
+use handover::Lender;
 
 // Makes f the forwarding table.
 #[unsafe(no_mangle)]
@@ -26,7 +27,19 @@ pub extern "C" fn tronglephu_forward(
     ensures value { result ≡ forward_reply (on_tables (on_network (language_of numbers.now) n a.now) m mode r.now mapping.now) f.old }
     ensures f_after { f.new ≡ forward_left (on_tables (on_network (language_of numbers.now) n a.now) m mode r.now mapping.now) f.old }
 {
-    answered(forwarding::forward::forward(language(numbers), n, m, mode, a, r, mapping, f))
+    let network = Network {
+        language: language(numbers),
+        n,
+        arcs: a,
+    };
+    let tables = Tables {
+        network,
+        m,
+        mode,
+        routes: r,
+        mapping,
+    };
+    answered(forwarding::forward::forward(&tables, f))
 }
 
 // The next hop from i to j, 255 for none.
@@ -41,10 +54,15 @@ pub extern "C" fn tronglephu_next_hop(
 ) -> Reply
     ensures { result ≡ hop_reply (on_network (language_of numbers.now) n a.now) r.now i j }
 {
-    match hops::next_hop::next_hop(language(numbers), n, a, r, i, j) {
-        HopAnswer::Hop(node) => done(node.0 as u32),
-        HopAnswer::NoHop => done(NO_NODE),
-        HopAnswer::Refused(x) => refused(x, 0),
+    let network = Network {
+        language: language(numbers),
+        n,
+        arcs: a,
+    };
+    match hops::next_hop::next_hop(&network, r, i, j) {
+        Ok(Some(node)) => done(node.0 as u32),
+        Ok(None) => done(NO_NODE),
+        Err(x) => refused(x, 0),
     }
 }
 
@@ -60,9 +78,14 @@ pub extern "C" fn tronglephu_handover(
 ) -> Reply
     ensures { result ≡ handover_reply (on_network (language_of numbers.now) n a.now) standing.now newer.now i }
 {
-    match handover::lending::lender(language(numbers), n, a, standing, newer, i) {
-        LenderAnswer::Newer => done(NEWER),
-        LenderAnswer::Standing => done(STANDING),
-        LenderAnswer::Refused(x) => refused(x, 0),
+    let network = Network {
+        language: language(numbers),
+        n,
+        arcs: a,
+    };
+    match handover::lending::lender(&network, standing, newer, i) {
+        Ok(Lender::Newer) => done(NEWER),
+        Ok(Lender::Standing) => done(STANDING),
+        Err(x) => refused(x, 0),
     }
 }

@@ -8,23 +8,22 @@ use door::problems::put_problem;
 use door::replies::{done, refused};
 use door::reports::{held_laws, put_laws};
 use door::{PROBLEM_WORDS, REPORT_WORDS, Reply};
-use files::ReadAnswer;
-use refusals::{Check, Refusal};
+use refusals::Refusal;
 
 // 9 on arcs, mapping and problem.
-fn check_room(arcs: &[u32], mapping: &[u32], problem: &[u32]) -> Check
+fn check_room(arcs: &[u32], mapping: &[u32], problem: &[u32]) -> Result<(), Refusal>
     ensures { result ≡ room_check arcs.now mapping.now problem.now }
 {
     if arcs.len() < 1024 {
-        return Check::Refused(Refusal::Length { which: 1, place: 0 });
+        return Err(Refusal::Length { which: 1, place: 0 });
     }
     if mapping.len() < 2560 {
-        return Check::Refused(Refusal::Length { which: 3, place: 0 });
+        return Err(Refusal::Length { which: 3, place: 0 });
     }
     if problem.len() < PROBLEM_WORDS {
-        return Check::Refused(Refusal::Length { which: 6, place: 0 });
+        return Err(Refusal::Length { which: 6, place: 0 });
     }
-    Check::Passed
+    Ok(())
 }
 
 // Reads a problem file: its arcs, its mapping, and its twelve words n, m, mode and language.
@@ -40,20 +39,15 @@ pub extern "C" fn tronglephu_read(
     ensures mapping_after { mapping.new ≡ mapping_left file.now arcs.old mapping.old problem.old }
     ensures problem_after { problem.new ≡ problem_left file.now arcs.old mapping.old problem.old }
 {
-    match check_room(arcs, mapping, problem) {
-        Check::Refused(x) => refused(x, 0),
-        Check::Passed => match files::reading::read(file, arcs, mapping) {
-            ReadAnswer::Refused(x) => refused(x, 0),
-            ReadAnswer::Done {
-                n,
-                m,
-                mode,
-                language,
-            } => {
-                put_problem(problem, n, m, mode, language);
-                done(0)
-            }
-        },
+    if let Err(x) = check_room(arcs, mapping, problem) {
+        return refused(x, 0);
+    }
+    match files::reading::read(file, arcs, mapping) {
+        Ok(read) => {
+            put_problem(problem, read.n, read.m, read.mode, read.language);
+            done(0)
+        }
+        Err(x) => refused(x, 0),
     }
 }
 

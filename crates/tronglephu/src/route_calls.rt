@@ -8,7 +8,7 @@ ghost use Rattle.tronglephu.specs.Calls.{fresh_reply, steps_reply, equation_repl
 use door::Reply;
 use door::languages::language;
 use door::replies::{answered, done, refused};
-use routes::{EquationAnswer, StepsAnswer};
+use guards::network::Network;
 
 // Makes r the fresh matrix.
 #[unsafe(no_mangle)]
@@ -31,9 +31,14 @@ pub extern "C" fn tronglephu_steps(
     ensures value { result ≡ steps_reply (on_network (language_of numbers.now) n a.now) r.old list.now }
     ensures r_after { r.new ≡ steps_left (on_network (language_of numbers.now) n a.now) r.old list.now }
 {
-    match steps::steps(language(numbers), n, a, r, list) {
-        StepsAnswer::Done(count) => done(count),
-        StepsAnswer::Refused { refusal, done } => refused(refusal, done),
+    let network = Network {
+        language: language(numbers),
+        n,
+        arcs: a,
+    };
+    match steps::steps(&network, r, list) {
+        Ok(count) => done(count),
+        Err(stopped) => refused(stopped.refusal, stopped.done),
     }
 }
 
@@ -42,9 +47,13 @@ pub extern "C" fn tronglephu_steps(
 pub extern "C" fn tronglephu_equation(numbers: &[u16], n: u32, a: &[u32], r: &[u32]) -> Reply
     ensures { result ≡ equation_reply (on_network (language_of numbers.now) n a.now) r.now }
 {
-    match routes::equation::equation(language(numbers), n, a, r) {
-        EquationAnswer::Yes => done(1),
-        EquationAnswer::No => done(0),
-        EquationAnswer::Refused(x) => refused(x, 0),
+    let network = Network {
+        language: language(numbers),
+        n,
+        arcs: a,
+    };
+    match routes::equation::equation(&network, r) {
+        Ok(yes) => done(yes as u32),
+        Err(x) => refused(x, 0),
     }
 }

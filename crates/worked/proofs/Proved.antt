@@ -26,10 +26,9 @@ use Rattle.matrices.proofs.Every.{solves_exactly}
 use Rattle.modes.specs.declared.Mode.TheVariants.{Hot}
 use Rattle.modes.specs.Entries.{mapped, mode_of}
 use Rattle.tables.specs.Tables.{table_in}
-use Rattle.fields.specs.declared.HeadRead.TheVariants.{Sound}
 use Rattle.file_bytes.specs.Bytes.{two_at}
 use Rattle.fields.specs.Nested.{added, component_read, language_from}
-use Rattle.fields.specs.Header.{field_check, fields_check, head_read}
+use Rattle.fields.specs.Header.{field_check, fields_check, head_read, sound_head}
 use Rattle.records.specs.Records.{record_length, ends_check, values_check, record_check, records_check, record_list_check, list_end, body_check}
 use Rattle.files.specs.File.{file_read}
 use Rattle.contents.specs.Contents.{outside_at, listed_words, listed_table}
@@ -64,7 +63,7 @@ arcs_valid = nine (λ i j. (language distance).Valid (arcs i j)) tt (tt, tt) (tt
 printed : Network
 printed = record { 𝓐 = language distance; 𝓛 = lawful distance (tt, tt) refl refl; n = 3; A = arcs; arcs_valid = arcs_valid }
 
-reads : (file_read (printed_file 3) ≡ Sound 9 (printed_head 3)) × (file_read (printed_file 2) ≡ Sound 9 (printed_head 2))
+reads : (file_read (printed_file 3) ≡ sound_head 9 (printed_head 3)) × (file_read (printed_file 2) ≡ sound_head 9 (printed_head 2))
 unfolding file_read head_read fields_check field_check language_from component_read added two_at body_check record_list_check list_end records_check record_check record_length ends_check values_check
 reads = (refl, refl)
 

@@ -18,7 +18,6 @@ use Rattle.tables.specs.Tables.{table_in}
 use Rattle.routes.specs.Calls.{fresh_left, steps_row, StepsRow}
 use Rattle.histories.specs.Examples.{written, distance, distance_language, depot_arcs, depot_routes}
 use Rattle.fields.specs.declared.Head.{Head}
-use Rattle.fields.specs.declared.HeadRead.TheVariants.{Sound}
 use Rattle.records.specs.declared.Listing.TheVariants.{Arcs, Attachments}
 use Rattle.file_bytes.specs.Bytes.{two_at}
 use Rattle.records.specs.Records.{list_end}
@@ -27,6 +26,7 @@ use Rattle.contents.specs.Contents.{listed_table}
 use Rattle.files.specs.PrintedFile.{printed_file, printed_head}
 use Rattle.matrices.specs.Buffers.{matrix_in}
 use Rattle.guards.specs.OnNetwork.{OnNetwork, on_network}
+use Rattle.fields.specs.Header.{sound_head}
 
 -- ---- what a file lists
 
@@ -77,12 +77,12 @@ pub record ProvedTogether : Type 0 where
   pub P4 : LawD (Gain ∷ []) × LawC (Gain ∷ []) × BreaksU (Gain ∷ []) (route (1 ∷ []))
   -- (P5) the printed matrix: from 01's bytes, two sweeps from fresh give it, and it is the best
   pub P5 :
-      (file_read (printed_file 3) ≡ Sound 9 (printed_head 3))
+      (file_read (printed_file 3) ≡ sound_head 9 (printed_head 3))
       × Same 3 (reached (language distance) 3 (arcs_read (printed_file 3) 9 (printed_head 3)) (sweeps 3 2)) printed_matrix
       × ((i j : ℕ) → i < 3 → j < 3 → Best (language distance) 3 (arcs_read (printed_file 3) 9 (printed_head 3)) i j (printed_matrix i j))
   -- (P6) the same file in hot mode, from its own bytes: F(0,0) is 2 with t 7
   pub P6 :
-      (file_read (printed_file 2) ≡ Sound 9 (printed_head 2))
+      (file_read (printed_file 2) ≡ sound_head 9 (printed_head 2))
       × (mode_for distance 1 2 ≡ Some Hot)
       × (forwarded (language distance) (mode_of Hot distance) 3
       (reached (language distance) 3 (arcs_read (printed_file 2) 9 (printed_head 2)) (sweeps 3 2))

@@ -1,4 +1,3 @@
-use mathlib.Core.Path.{◌≡◌}
 use native.Mathlib.Omega.{arith}
 use Rattle.printing.proofs.Sweeping.{sweep_none, sweep_more}
 use Rattle.printing.proofs.work.put_sweep.Goals as goal
@@ -6,14 +5,5 @@ use Rattle.printing.proofs.work.put_sweep.Goals as goal
 pub loop-i-init : goal.loop-i-init
 loop-i-init c = (omega arith, sweep_none c.args.list.now c.args.at)
 
-pub bounds-list-at : goal.bounds-list-at
-bounds-list-at c = omega (arith, c.requires.1, c.loop-i.invariant.1.long)
-
 pub loop-i-preserved : goal.loop-i-preserved
 loop-i-preserved c = (omega arith, sweep_more c.args.list.now c.args.at c.loop-i.i c.loop-i.list c.loop-i.invariant.1)
-
-pub shape_of-list : goal.shape_of-list
-shape_of-list c = c.loop-i.invariant.1.long
-
-pub returns : goal.returns
-returns c = let e : c.loop-i.i ≡ c.args.n = omega arith in rw (← e) c.loop-i.invariant.1

@@ -4,7 +4,4 @@ use Rattle.printing.proofs.Sweeping.{round}
 use Rattle.printing.proofs.work.put_sweeps.Given as goal
 
 abbrev pub invariant-loop-t : goal.invariant-loop-t
-invariant-loop-t l = (l.t ≤ l.rounds) × Grown l.n (round l.n) l.initial.list 0 l.t l.list (l.t * l.n)
-
-abbrev pub decreases-loop-t : goal.decreases-loop-t
-decreases-loop-t l = l.rounds - l.t
+invariant-loop-t l = (l.t ≤ (l.n - 1)) × Grown l.n (round l.n) l.initial.list 0 l.t l.list (l.t * l.n)

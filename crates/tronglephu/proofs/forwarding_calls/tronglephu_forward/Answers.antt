@@ -1,10 +1,5 @@
-use mathlib.Core.Path.{sym, ap, ◌∙◌}
-use Rattle.refusals.specs.declared.Told.{Told}
-use Rattle.door.specs.Replies.{reply_of}
+use Rattle.std.proofs.Common.{sym}
 use Rattle.tronglephu.proofs.forwarding_calls.tronglephu_forward.Goals as goal
 
-pub returns : goal.returns
-returns c = record {
-  value = rw (sym c.language.ensures) (c.answered.ensures ∙ ap (λ (t : Told). reply_of t 0) c.forward.ensures.result_value);
-  f_after = rw (sym c.language.ensures) (c.forward.ensures.f_after);
-}
+pub returns-clause-f_after : goal.returns-clause-f_after
+returns-clause-f_after c = rw (sym c.language.ensures) c.forward.ensures.f_after
