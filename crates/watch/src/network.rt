@@ -10,7 +10,7 @@ use weights::{Component, Language};
 // A link carries up to 10, and more is better.
 pub const LANGUAGE: Language = Language {
     count: 1,
-    first: Component::Width(LINK as u16),
+    first: Component::Width(LINK),
     second: Component::Dist,
     third: Component::Dist,
     fourth: Component::Dist,
@@ -18,7 +18,7 @@ pub const LANGUAGE: Language = Language {
 
 pub const NODES: u32 = 3;
 
-const LINK: u32 = 10;
+const LINK: u16 = 10;
 
 #[derive(Clone, Copy, PartialEq, Eq)]
 pub enum Node {
@@ -65,7 +65,7 @@ impl fmt::Display for Node {
 fn linked(links: &[(Node, Node)]) -> Matrix {
     let mut matrix = Matrix::EMPTY;
     for (from, to) in links {
-        matrix.put(*from, *to, [LINK, 0, 0, 0]);
+        matrix.put(*from, *to, [LINK as u32, 0, 0, 0]);
     }
     matrix
 }
