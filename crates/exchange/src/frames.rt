@@ -1,5 +1,6 @@
 // Frames that are read and written: 32-bit words, the lowest byte first, of which the first says how many follow.
 ghost use Rattle.std.specs.Prelude.{◌≤◌, length, IfOk};
+ghost use Rattle.exchange.specs.declared.frames.TheConstants.{FRAME_BYTES};
 
 use inputs::read_full;
 use refusals::Told;
@@ -36,7 +37,7 @@ pub fn receive(input: &mut impl Read, words: &mut [u32]) -> io::Result<usize>
 pub struct Frame {
     bytes: [u8; FRAME_BYTES],
     end: usize,
-    ghost in_room: { end ≤ 65536 },
+    ghost in_room: { end ≤ FRAME_BYTES },
 }
 
 impl Frame {
@@ -49,16 +50,13 @@ impl Frame {
 
     // Puts bytes, and zeros up to a whole word, where there is room for them.
     pub fn put_bytes(&mut self, bytes: &[u8]) {
-        let size = bytes.len();
-        if FRAME_BYTES < size {
-            return;
-        }
-        let end = self.end + size.next_multiple_of(WORD_BYTES);
+        let start = self.end;
+        let end = start + bytes.len();
         if FRAME_BYTES < end {
             return;
         }
-        self.bytes[self.end..self.end + size].copy_from_slice(bytes);
-        self.end = end;
+        self.bytes[start..end].copy_from_slice(bytes);
+        self.end = end.next_multiple_of(WORD_BYTES);
     }
 
     // Puts words, as far as there is room.

@@ -3,6 +3,9 @@ ghost use Rattle.std.specs.Prelude.{◌≡◌, ◌≤◌, ◌++◌, drop, IfOk};
 
 use weights::{Component, Language};
 
+// The numbers of a request: the call, nine of the language, n, m, mode, i and j.
+const NUMBERS: usize = 15;
+
 // Why a request is not answered as its call would.
 #[derive(Clone, Copy, Debug, PartialEq, Eq)]
 pub enum Unanswered {
@@ -12,7 +15,7 @@ pub enum Unanswered {
     TooLong,
 }
 
-// A request: the call's number, the arguments, then the buffers' lengths and the buffers, as words.
+// A request, as words that are read: its numbers, and what follows them.
 #[derive(Clone, Copy)]
 pub struct Request<'w> {
     pub call: u32,
@@ -48,6 +51,16 @@ fn component(kind: u32, value: u32) -> Component {
     }
 }
 
+fn language(numbers: &[u32; NUMBERS]) -> Language {
+    Language {
+        count: numbers[1],
+        first: component(numbers[2], numbers[3]),
+        second: component(numbers[4], numbers[5]),
+        third: component(numbers[6], numbers[7]),
+        fourth: component(numbers[8], numbers[9]),
+    }
+}
+
 // The first `count` words, and the others.
 fn split(words: &[u32], count: usize) -> Result<(&[u32], &[u32]), Unanswered>
     ensures joined { IfOk result (λ p. p.0.now ++ p.1.now ≡ words.now) }
@@ -63,40 +76,17 @@ fn length(lengths: &[u32], which: usize) -> usize {
 
 impl<'w> Request<'w> {
     pub fn read(words: &'w [u32]) -> Result<Self, Unanswered> {
-        let Some((numbers, after)) = words.split_first_chunk::<15>() else {
+        let Some((numbers, after)) = words.split_first_chunk::<NUMBERS>() else {
             return Err(Unanswered::NoRequest);
         };
-        let [
-            call,
-            count,
-            kind1,
-            limit1,
-            kind2,
-            limit2,
-            kind3,
-            limit3,
-            kind4,
-            limit4,
-            n,
-            m,
-            mode,
-            from,
-            to,
-        ] = *numbers;
         Ok(Request {
-            call,
-            language: Language {
-                count,
-                first: component(kind1, limit1),
-                second: component(kind2, limit2),
-                third: component(kind3, limit3),
-                fourth: component(kind4, limit4),
-            },
-            n,
-            m,
-            mode,
-            from,
-            to,
+            call: numbers[0],
+            language: language(numbers),
+            n: numbers[10],
+            m: numbers[11],
+            mode: numbers[12],
+            from: numbers[13],
+            to: numbers[14],
             after,
         })
     }
