@@ -2,8 +2,7 @@
 use super::shared::{ROOM, network, told};
 use exchange::frames::Frame;
 use exchange::requests::{Buffers, Request, Unanswered};
-use handover::Lender;
-use handover::lending;
+use handover::{Lender, lending};
 use refusals::Told;
 
 // How many words are lent, or 65,535 where they are more than a matrix has room for.

@@ -41,9 +41,9 @@ fn answer(words: &[u32], response: &mut Frame) -> Result<(), Unanswered> {
 // Reads one request and answers it; false where there is none.
 fn serve(rt: &impl Print, input: &mut impl Read) -> io::Result<bool> {
     let mut words = [0; 16384];
-    let count = frames::receive(input, &mut words)?;
+    let request = frames::receive(input, &mut words)?;
     let mut response = Frame::new();
-    match answer(&words[..count], &mut response) {
+    match answer(request, &mut response) {
         Ok(()) => response.send(rt)?,
         Err(Unanswered::TooLong) => frames::send_too_long(rt)?,
         Err(Unanswered::NoRequest) => return Ok(false),
@@ -53,7 +53,7 @@ fn serve(rt: &impl Print, input: &mut impl Read) -> io::Result<bool> {
 
 fn main(rt: HostRuntime) -> io::Result<()> {
     let mut input = rt.stdin();
-    for _ in 0..1000000000000u64 {
+    for _ in 0..1_000_000_000_000u64 {
         if !serve(&rt, &mut input)? {
             return Ok(());
         }

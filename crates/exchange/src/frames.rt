@@ -1,6 +1,6 @@
 // Frames that are read and written: 32-bit words, the lowest byte first, of which the first says how many follow.
-ghost use Rattle.std.specs.Prelude.{◌≤◌, length, IfOk};
-ghost use Rattle.exchange.specs.declared.frames.TheConstants.{FRAME_BYTES};
+ghost use Rattle.std.specs.Prelude.{◌≤◌};
+ghost use Rattle.exchange.specs.declared.frames.TheConstants.{FRAME_BYTES, WORD_BYTES};
 
 use inputs::read_full;
 use refusals::Told;
@@ -11,25 +11,23 @@ const FRAME_BYTES: usize = 65536;
 
 const WORD_BYTES: usize = 4;
 
-// Reads the words of a request behind its first, and says how many they are; 0 where there is none, or no room for it.
-pub fn receive(input: &mut impl Read, words: &mut [u32]) -> io::Result<usize>
-    ensures { IfOk result (λ count. count ≤ length words.new) }
-{
+// Reads the words of a request behind its first. There are none where there is no request, or no room for it.
+pub fn receive<'w>(input: &mut impl Read, words: &'w mut [u32]) -> io::Result<&'w [u32]> {
     let mut first = [0; WORD_BYTES];
     if read_full(input, &mut first)? < WORD_BYTES {
-        return Ok(0);
+        return Ok(&[]);
     }
     let count = u32::from_le_bytes(first) as usize;
     let size = count * WORD_BYTES;
     let mut bytes = [0; FRAME_BYTES];
     if words.len() < count || FRAME_BYTES < size || read_full(input, &mut bytes[..size])? < size {
-        return Ok(0);
+        return Ok(&[]);
     }
     let (read, _) = bytes.as_chunks();
     for (word, four) in words.iter_mut().zip(read) {
         *word = u32::from_le_bytes(*four);
     }
-    Ok(count)
+    Ok(&words[..count])
 }
 
 // A response that is being written: its bytes so far, whose first word is put when it is sent.
@@ -37,7 +35,7 @@ pub fn receive(input: &mut impl Read, words: &mut [u32]) -> io::Result<usize>
 pub struct Frame {
     bytes: [u8; FRAME_BYTES],
     end: usize,
-    ghost in_room: { end ≤ FRAME_BYTES },
+    ghost in_room: { (WORD_BYTES ≤ end) × (end ≤ FRAME_BYTES) },
 }
 
 impl Frame {
@@ -72,8 +70,8 @@ impl Frame {
     }
 
     pub fn send(&mut self, rt: &impl Print) -> io::Result<()> {
-        let words = (self.end / WORD_BYTES) as u32;
-        self.bytes[0..WORD_BYTES].copy_from_slice(&words.saturating_sub(1).to_le_bytes());
+        let others = (self.end / WORD_BYTES - 1) as u32;
+        self.bytes[0..WORD_BYTES].copy_from_slice(&others.to_le_bytes());
         rt.write_all(&self.bytes[..self.end])
     }
 }

@@ -76,9 +76,8 @@ fn length(lengths: &[u32], which: usize) -> usize {
 
 impl<'w> Request<'w> {
     pub fn read(words: &'w [u32]) -> Result<Self, Unanswered> {
-        let Some((numbers, after)) = words.split_first_chunk::<NUMBERS>() else {
-            return Err(Unanswered::NoRequest);
-        };
+        let parts = words.split_first_chunk::<NUMBERS>();
+        let (numbers, after) = parts.ok_or(Unanswered::NoRequest)?;
         Ok(Request {
             call: numbers[0],
             language: language(numbers),
