@@ -1,5 +1,5 @@
 // Frames that are read and written: 32-bit words, the lowest byte first, of which the first says how many follow.
-ghost use Rattle.std.specs.Prelude.{◌≤◌};
+ghost use Rattle.std.specs.Prelude.{◌≤◌, length, IfOk};
 ghost use Rattle.exchange.specs.declared.frames.TheConstants.{FRAME_BYTES, WORD_BYTES};
 
 use inputs::read_full;
@@ -12,7 +12,9 @@ const FRAME_BYTES: usize = 65536;
 const WORD_BYTES: usize = 4;
 
 // Reads the words of a request behind its first. There are none where there is no request, or no room for it.
-pub fn receive<'w>(input: &mut impl Read, words: &'w mut [u32]) -> io::Result<&'w [u32]> {
+pub fn receive<'w>(input: &mut impl Read, words: &'w mut [u32]) -> io::Result<&'w [u32]>
+    ensures { IfOk result (λ request. length request.now ≤ length words.old) }
+{
     let mut first = [0; WORD_BYTES];
     if read_full(input, &mut first)? < WORD_BYTES {
         return Ok(&[]);

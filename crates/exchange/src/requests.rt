@@ -1,5 +1,5 @@
 // The parts of a request: its numbers, its language, its buffers.
-ghost use Rattle.std.specs.Prelude.{◌≡◌, ◌≤◌, ◌++◌, drop, IfOk};
+ghost use Rattle.std.specs.Prelude.{◌≡◌, ◌++◌, drop, IfOk};
 
 use weights::{Component, Language};
 
@@ -15,7 +15,7 @@ pub enum Unanswered {
     TooLong,
 }
 
-// A request, as words that are read: its numbers, and what follows them.
+// A request that is read: its numbers, and what follows them.
 #[derive(Clone, Copy)]
 pub struct Request<'w> {
     pub call: u32,
@@ -92,7 +92,6 @@ impl<'w> Request<'w> {
 
     // The buffers, the first `count` of four; the others are empty. They have the lengths that are stated, and no word is left.
     pub fn buffers(&self, count: usize) -> Result<Buffers<'w>, Unanswered>
-        requires { count ≤ 4 }
         ensures { IfOk result (λ b. b.first.now ++ b.second.now ++ b.third.now ++ b.fourth.now ≡ drop count self.now.after.now) }
     {
         let (lengths, rest) = split(self.after, count)?;

@@ -57,7 +57,7 @@ pub fn lost(rt: &impl Print) -> io::Result<()> {
 
 // ---- steps, one screen each
 
-// The new engine, after the incident: the links that are left, the standing matrix, and the new one.
+// The new engine, after the incident: the links that are left, the standing matrix, and the new one that it works on.
 #[derive(Clone, Copy)]
 struct Engine {
     links: Matrix,
@@ -66,16 +66,18 @@ struct Engine {
 }
 
 impl Engine {
-    // An engine that is started from a matrix, which is shown before any step.
-    fn start(rt: &impl Print, head: &str, newer: Matrix) -> io::Result<Engine> {
-        let engine = Engine {
+    fn new(newer: Matrix) -> Engine {
+        Engine {
             links: links_after(),
             standing: Matrix::standing(),
             newer,
-        };
+        }
+    }
+
+    // What it is started from, before any step.
+    fn start(&self, rt: &impl Print, head: &str) -> io::Result<()> {
         title(rt, head)?;
-        engine.look(rt, &newer)?;
-        Ok(engine)
+        self.look(rt, &self.newer)
     }
 
     // What is seen of the new matrix after a step from what it held before.
@@ -121,8 +123,8 @@ better and no worse, until a best matrix takes its place.
 
 // The old matrix, swept.
 pub fn swept(rt: &impl Print) -> io::Result<()> {
-    let head = "The new engine is started from the old matrix";
-    let mut engine = Engine::start(rt, head, Matrix::standing())?;
+    let mut engine = Engine::new(Matrix::standing());
+    engine.start(rt, "The new engine is started from the old matrix")?;
     rt.print(CIRCLING)?;
     engine.sweep(rt, "Old matrix, first sweep: row step of ")?;
     engine.sweep(rt, "Old matrix, second sweep: row step of ")?;
@@ -131,8 +133,8 @@ pub fn swept(rt: &impl Print) -> io::Result<()> {
 
 // The same from fresh.
 pub fn from_fresh(rt: &impl Print) -> io::Result<()> {
-    let head = "The new engine is started from fresh instead";
-    let mut engine = Engine::start(rt, head, Matrix::fresh())?;
+    let mut engine = Engine::new(Matrix::fresh());
+    engine.start(rt, "The new engine is started from fresh instead")?;
     engine.sweep(rt, "From fresh, first sweep: row step of ")?;
     engine.sweep(rt, "From fresh, second sweep: row step of ")?;
     println!(rt; "\nTwo sweeps from fresh, n - 1 of them, always end in the best.")
@@ -140,11 +142,7 @@ pub fn from_fresh(rt: &impl Print) -> io::Result<()> {
 
 // The old matrix, repaired.
 pub fn settled(rt: &impl Print) -> io::Result<()> {
-    let mut engine = Engine {
-        links: links_after(),
-        standing: Matrix::standing(),
-        newer: Matrix::standing(),
-    };
+    let mut engine = Engine::new(Matrix::standing());
     engine.settles(rt, "The repair, on the old matrix: settle of column ")?;
     println!(rt; "\nA settle does not look at what its column held: n settles repair every matrix.")
 }
