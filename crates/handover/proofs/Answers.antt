@@ -1,9 +1,8 @@
 -- From what the inner functions say to the calls' own words: which matrix lends, the row and where it stands.
 use Prim.Native.Nat.{ℕ, ◌≤◌, ◌<◌}
-use mathlib.Core.Path.{◌≡◌, refl, sym, ap, ap₂, ◌∙◌}
+use mathlib.Core.Path.{◌≡◌, refl, sym, ap, ◌∙◌}
 use mathlib.Core.Bool.{Bool, true, false, cond}
 use mathlib.Core.List.{List, []}
-use native.Mathlib.Omega.{arith}
 use Rattle.refusals.specs.declared.Refusal.{Refusal}
 use Rattle.refusals.specs.Told.{told}
 use Rattle.refusals.specs.Checks.{answer_told, if_passed, Check}
@@ -45,9 +44,6 @@ module _ (N : OnNetwork) (standing newer : List ℕ) (i : ℕ) where
 
   -- ---- the lender
 
-  pub lender_refused : (x : Refusal) → check ≡ Err x → lender_said (Err x) ≡ lender_row N standing newer i
-  lender_refused x e = ap (λ (c : Check). lender_row_by c is_new) (sym e)
-
   module _ (p : PerPlace Component) (k : HandoverChecked N standing newer i p) {b : Bool} (q : b ≡ same_values newer (matrix_words n (best (language (places_of p)) n (matrix_in places n arcs)))) where
     -- the best weights have the same words in the places and in the language
     best_same : matrix_words n (best (language (places_of p)) n (matrix_in places n arcs)) ≡ best_words N
@@ -68,22 +64,6 @@ module _ (N : OnNetwork) (standing newer : List ℕ) (i : ℕ) where
     lender_standing t = ap (lender_row_by (Ok tt)) (sym t) ∙ told_by
 
   -- ---- what the lender's answer says
-
-  pub newer_says : lender_said (Ok Newer) ≡ lender_row N standing newer i → (check ≡ Ok tt) × (is_new ≡ true)
-  newer_says e = go check is_new refl refl e
-    where
-      go : (c : Check) (b : Bool) → check ≡ c → is_new ≡ b → lender_said (Ok Newer) ≡ lender_row_by c b → (check ≡ Ok tt) × (is_new ≡ true)
-      go (Ok _) true p q h = (p, q)
-      go (Ok _) false p q h = absurd (let z : ◌≡◌ {A = ℕ} 2 5 = ap (λ (w : LenderRow). w.buffer) h in omega arith)
-      go (Err x) b p q h = absurd (told_not_done x (sym (ap (λ (w : LenderRow). w.told) h)))
-
-  pub standing_says : lender_said (Ok Standing) ≡ lender_row N standing newer i → (check ≡ Ok tt) × (is_new ≡ false)
-  standing_says e = go check is_new refl refl e
-    where
-      go : (c : Check) (b : Bool) → check ≡ c → is_new ≡ b → lender_said (Ok Standing) ≡ lender_row_by c b → (check ≡ Ok tt) × (is_new ≡ false)
-      go (Ok _) true p q h = absurd (let z : ◌≡◌ {A = ℕ} 5 2 = ap (λ (w : LenderRow). w.buffer) h in omega arith)
-      go (Ok _) false p q h = (p, q)
-      go (Err x) b p q h = absurd (told_not_done x (sym (ap (λ (w : LenderRow). w.told) h)))
 
   pub refused_says : (x : Refusal) → lender_said (Err x) ≡ lender_row N standing newer i → check ≡ Err x
   refused_says x e = go check refl (ap (λ (w : LenderRow). w.told) e)
@@ -112,34 +92,11 @@ module _ (N : OnNetwork) (standing newer : List ℕ) (i : ℕ) where
         node = node_passed 0 n i h.1.1.1.1.1.1.1.1.1.0;
       }
 
-  pub row_newer : lender_said (Ok Newer) ≡ lender_row N standing newer i → row_part n i newer ≡ lent_row N standing newer i
-  row_newer e = let h = newer_says e in ap₂ (λ (c : Check) (b : Bool). if_passed c (cond b (row_part n i newer) (row_part n i standing)) []) (sym h.0) (sym h.1)
-
-  pub row_standing : lender_said (Ok Standing) ≡ lender_row N standing newer i → row_part n i standing ≡ lent_row N standing newer i
-  row_standing e = let h = standing_says e in ap₂ (λ (c : Check) (b : Bool). if_passed c (cond b (row_part n i newer) (row_part n i standing)) []) (sym h.0) (sym h.1)
-
   pub row_refused : (x : Refusal) → lender_said (Err x) ≡ lender_row N standing newer i → [] ≡ lent_row N standing newer i
   row_refused x e = ap (λ (c : Check). if_passed c (cond is_new (row_part n i newer) (row_part n i standing)) []) (sym (refused_says x e))
 
   -- ---- where it stands
 
   module _ (v w : ℕ × ℕ) where
-    pub start_newer : lender_said (Ok Newer) ≡ lender_row N standing newer i → row_start n i w ≡ lent_start N standing newer i v w
-    start_newer e = let h = newer_says e in ap₂ (λ (c : Check) (b : Bool). if_passed c (cond b (row_start n i w) (row_start n i v)) v) (sym h.0) (sym h.1)
-
-    pub start_standing : lender_said (Ok Standing) ≡ lender_row N standing newer i → row_start n i v ≡ lent_start N standing newer i v w
-    start_standing e = let h = standing_says e in ap₂ (λ (c : Check) (b : Bool). if_passed c (cond b (row_start n i w) (row_start n i v)) v) (sym h.0) (sym h.1)
-
     pub start_refused : (x : Refusal) → lender_said (Err x) ≡ lender_row N standing newer i → v ≡ lent_start N standing newer i v w
     start_refused x e = ap (λ (c : Check). if_passed c (cond is_new (row_start n i w) (row_start n i v)) v) (sym (refused_says x e))
-
-  -- ---- the refusal
-
-  pub told_newer : lender_said (Ok Newer) ≡ lender_row N standing newer i → answer_told (Ok tt) ≡ answer_told check
-  told_newer e = ap answer_told (sym (newer_says e).0)
-
-  pub told_standing : lender_said (Ok Standing) ≡ lender_row N standing newer i → answer_told (Ok tt) ≡ answer_told check
-  told_standing e = ap answer_told (sym (standing_says e).0)
-
-  pub told_refused : (x : Refusal) → lender_said (Err x) ≡ lender_row N standing newer i → answer_told (Err x) ≡ answer_told check
-  told_refused x e = ap answer_told (sym (refused_says x e))

@@ -26,7 +26,7 @@ use Rattle.matrices.specs.Steps.{Matrix, Given}
 use Rattle.guards.specs.Checks.{node_case}
 use Rattle.routes.specs.Calls.{equation_check}
 use Rattle.routes.proofs.Bridge.{buffer_goes, embedded, same_padded}
-use Rattle.routes.proofs.Order.{rest_stops, rest_goes_on, two_checks, placed_sound}
+use Rattle.routes.proofs.Order.{rest_goes_on, two_checks, placed_sound}
 use Rattle.guards.proofs.Singles.{node_passed}
 use Rattle.hops.specs.NextHop.{is_hop, lowest_from, hop_of, found_at}
 use Rattle.hops.specs.Calls.{hop_check, HopRow, hop_row, hop_said}
@@ -72,9 +72,6 @@ module _ (N : OnNetwork) (r : List ℕ) (i j : ℕ) where
 
   by_check : (c : Check) → hop_check N r i j ≡ c → hop_row_by c rule ≡ hop_row N r i j
   by_check c e = ap (λ (c : Check). hop_row_by c rule) (sym e)
-
-  pub refused_before : (x : Refusal) → equation_check N r ≡ Err x → hop_said (Err x) ≡ hop_row N r i j
-  refused_before x e = by_check (Err x) (rest_stops N r pair e)
 
   module _ (e : equation_check N r ≡ Ok tt) {first second both : Check} (qi : first ≡ (node_case 0 n i).check) (qj : second ≡ (node_case 1 n j).check) (q : both ≡ result_and first second) where
     pair_first : {c : Check} → both ≡ c → hop_check N r i j ≡ c

@@ -3,7 +3,7 @@
 #![tactic(auto)]
 
 use laws::{Law, LawReport, Witness};
-use refusals::Refusal;
+use refusals::{Refusal, Told};
 use std::io;
 use weights::{Component, Language, PerPlace};
 
@@ -81,7 +81,7 @@ fn print_law(rt: &impl Print, name: &[u8], law: Law) -> io::Result<()> {
 }
 
 fn print_refusal(rt: &impl Print, r: Refusal) -> io::Result<()> {
-    let t = refusals::tell(r);
+    let t = Told::from(r);
     println!(rt; "REFUSED {} {} {}", t.number, t.which, t.place)
 }
 

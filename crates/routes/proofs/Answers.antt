@@ -99,9 +99,6 @@ yes_by c b = record { told = answer_told c; yes = if_passed c b false }
 module _ (N : OnNetwork) (r : List ℕ) where
   open N use {n, arcs}
 
-  pub equation_refused : (x : Refusal) → equation_check N r ≡ Err x → equation_said (Err x) ≡ equation_row N r
-  equation_refused x e = ap (λ (c : Check). yes_by c (solves (components N) n (arcs_on N) (matrix_on N r))) (sym e)
-
   module _ (p : PerPlace Component) (e : equation_check N r ≡ Ok tt) (o : Placed N.language p) (g : Given (places_of p) n arcs r) {b : Bool} (q : b ≡ solves (places_of p) n (matrix_in places n arcs) (matrix_in places n r)) where
     pub equation_answers : equation_said (Ok b) ≡ equation_row N r
     equation_answers =

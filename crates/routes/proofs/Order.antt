@@ -100,9 +100,6 @@ module _ (N : OnNetwork) (r : List ℕ) {found in_arcs in_routes measured : Chec
   both_long : check_of sizes ≡ Ok tt → measured ≡ check_of lengths
   both_long e = em ∙ two_checks (length_case 1 n arcs).check (length_case 2 n r).check (singles.measured 1 n arcs (nodes_found n e).1 ea) (singles.measured 2 n r (nodes_found n e).1 er)
 
-  pub matrices_stop : {x : Refusal} → entrance_check N.language found measured ≡ Err x → equation_check N r ≡ Err x
-  matrices_stop e = entrance_refuses N.language sizes lengths entries found measured (nodes_only n en) both_long e
-
   module _ (p : PerPlace Component) (o : Entered N.language found measured p) where
     pub squares : Square n arcs × Square n r
     squares =
