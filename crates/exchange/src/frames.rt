@@ -50,12 +50,11 @@ impl Frame {
 
     // Puts bytes, and zeros up to a whole word, where there is room for them.
     pub fn put_bytes(&mut self, bytes: &[u8]) {
-        let start = self.end;
-        let end = start + bytes.len();
+        let end = self.end + bytes.len();
         if FRAME_BYTES < end {
             return;
         }
-        self.bytes[start..end].copy_from_slice(bytes);
+        self.bytes[self.end..end].copy_from_slice(bytes);
         self.end = end.next_multiple_of(WORD_BYTES);
     }
 

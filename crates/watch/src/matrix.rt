@@ -1,7 +1,7 @@
 // A matrix of the three nodes: of links, or of routes.
 ghost use Rattle.std.specs.Prelude.{◌+◌, ◌≤◌};
 
-use super::network::{LANGUAGE, NODES, Node, links_before, network};
+use super::network::{LANGUAGE, NODES, Node, links_before, network, settles, sweep};
 use weights::{ONES, WEIGHT_WORDS};
 
 // Its words, four to an entry, by rows.
@@ -36,17 +36,16 @@ impl Matrix {
     // The best routes over the links: every column settled.
     pub fn best(links: &Matrix) -> Matrix {
         let mut matrix = Matrix::fresh();
-        matrix.run(links, &Node::ALL.map(|node| node.settle()));
+        matrix.run(links, &settles());
         matrix
     }
 
     // Worked out from fresh by two sweeps on the links as they were.
     pub fn standing() -> Matrix {
         let links = links_before();
-        let sweep = Node::ALL.map(|node| node.row_step());
         let mut matrix = Matrix::fresh();
-        matrix.run(&links, &sweep);
-        matrix.run(&links, &sweep);
+        matrix.run(&links, &sweep());
+        matrix.run(&links, &sweep());
         matrix
     }
 

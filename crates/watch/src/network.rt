@@ -39,16 +39,6 @@ impl Node {
             Node::Server => 2,
         }
     }
-
-    // The number of its row step.
-    pub fn row_step(self) -> u32 {
-        self.number()
-    }
-
-    // The number of the settle of its column.
-    pub fn settle(self) -> u32 {
-        FIRST_SETTLE + self.number()
-    }
 }
 
 impl fmt::Display for Node {
@@ -59,6 +49,16 @@ impl fmt::Display for Node {
             Node::Server => "the server",
         })
     }
+}
+
+// The numbers of a row step of each node.
+pub fn sweep() -> [u32; 3] {
+    Node::ALL.map(|node| node.number())
+}
+
+// The numbers of a settle of each column.
+pub fn settles() -> [u32; 3] {
+    Node::ALL.map(|node| FIRST_SETTLE + node.number())
 }
 
 // A matrix of links.

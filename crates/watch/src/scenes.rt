@@ -1,6 +1,6 @@
 // The scenes of the incident, in order.
 use super::matrix::Matrix;
-use super::network::{Node, links_after, links_before};
+use super::network::{Node, links_after, links_before, settles, sweep};
 use super::showing::{RULE, table, title};
 use super::telling;
 use std::io;
@@ -97,18 +97,10 @@ impl Engine {
         self.look(rt, &old)
     }
 
-    // A row step of each node.
-    fn sweep(&mut self, rt: &impl Print, head: &str) -> io::Result<()> {
-        for node in Node::ALL {
-            self.step(rt, head, node.row_step(), node)?;
-        }
-        Ok(())
-    }
-
-    // A settle of each column.
-    fn settles(&mut self, rt: &impl Print, head: &str) -> io::Result<()> {
-        for node in Node::ALL {
-            self.step(rt, head, node.settle(), node)?;
+    // Runs a step of each node.
+    fn steps(&mut self, rt: &impl Print, head: &str, numbers: &[u32; 3]) -> io::Result<()> {
+        for (node, number) in Node::ALL.iter().zip(numbers) {
+            self.step(rt, head, *number, *node)?;
         }
         Ok(())
     }
@@ -126,8 +118,8 @@ pub fn swept(rt: &impl Print) -> io::Result<()> {
     let mut engine = Engine::new(Matrix::standing());
     engine.start(rt, "The new engine is started from the old matrix")?;
     rt.print(CIRCLING)?;
-    engine.sweep(rt, "Old matrix, first sweep: row step of ")?;
-    engine.sweep(rt, "Old matrix, second sweep: row step of ")?;
+    engine.steps(rt, "Old matrix, first sweep: row step of ", &sweep())?;
+    engine.steps(rt, "Old matrix, second sweep: row step of ", &sweep())?;
     println!(rt; "\nThe equation balances, so no list of row steps will ever change it.")
 }
 
@@ -135,15 +127,19 @@ pub fn swept(rt: &impl Print) -> io::Result<()> {
 pub fn from_fresh(rt: &impl Print) -> io::Result<()> {
     let mut engine = Engine::new(Matrix::fresh());
     engine.start(rt, "The new engine is started from fresh instead")?;
-    engine.sweep(rt, "From fresh, first sweep: row step of ")?;
-    engine.sweep(rt, "From fresh, second sweep: row step of ")?;
+    engine.steps(rt, "From fresh, first sweep: row step of ", &sweep())?;
+    engine.steps(rt, "From fresh, second sweep: row step of ", &sweep())?;
     println!(rt; "\nTwo sweeps from fresh, n - 1 of them, always end in the best.")
 }
 
 // The old matrix, repaired.
 pub fn settled(rt: &impl Print) -> io::Result<()> {
     let mut engine = Engine::new(Matrix::standing());
-    engine.settles(rt, "The repair, on the old matrix: settle of column ")?;
+    engine.steps(
+        rt,
+        "The repair, on the old matrix: settle of column ",
+        &settles(),
+    )?;
     println!(rt; "\nA settle does not look at what its column held: n settles repair every matrix.")
 }
 
