@@ -37,8 +37,8 @@ pub struct Buffers<'w> {
     pub fourth: &'w [u32],
 }
 
-// Limits are 16-bit numbers. A larger one, and an unknown kind, become width 0.
-fn component(kind: u32, value: u32) -> Component {
+// Limits are 16-bit numbers. A larger one, and an unknown kind, become width 0, which every call refuses 4 at its place.
+pub fn component(kind: u32, value: u32) -> Component {
     let Ok(limit) = u16::try_from(value) else {
         return Component::Width(0);
     };

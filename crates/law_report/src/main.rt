@@ -2,10 +2,11 @@
 // A language is nine numbers: the count, then kind (1 dist, 2 width, 3 class, 4 gain) and limit for each of four places.
 #![tactic(auto)]
 
+use exchange::requests::component;
 use laws::{Law, LawReport, Witness};
 use refusals::{Refusal, Told};
 use std::io;
-use weights::{Component, Language, PerPlace};
+use weights::{Language, PerPlace};
 
 // A line, as far as it is read: the number that is being read, if one is, and those before it.
 #[derive(Clone, Copy, Default)]
@@ -19,7 +20,7 @@ impl Line {
     // A digit goes on the number; far above every limit it no longer matters.
     fn take_digit(&mut self, digit: u8) {
         let number = self.number.unwrap_or(0);
-        self.number = Some(if number < 1000000 {
+        self.number = Some(if number < 1_000_000 {
             number * 10 + digit as u32
         } else {
             number
@@ -34,21 +35,6 @@ impl Line {
                 self.read += 1;
             }
         }
-    }
-}
-
-// Limits are 16-bit numbers. A larger one, and an unknown kind, become width 0, which is refused with 4 at its place.
-fn component(kind: u32, number: u32) -> Component {
-    if 65535 < number {
-        return Component::Width(0);
-    }
-    let limit = number as u16;
-    match kind {
-        1 => Component::Dist,
-        2 => Component::Width(limit),
-        3 => Component::Class(limit),
-        4 => Component::Gain,
-        _ => Component::Width(0),
     }
 }
 
