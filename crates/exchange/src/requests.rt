@@ -1,5 +1,6 @@
 // The parts of a request: its numbers, its language, its buffers.
 ghost use Rattle.std.specs.Prelude.{◌≡◌, ◌++◌, drop, IfOk};
+ghost use Rattle.exchange.specs.Components.{component_of};
 
 use weights::{Component, Language};
 
@@ -38,7 +39,9 @@ pub struct Buffers<'w> {
 }
 
 // Limits are 16-bit numbers. A larger one, and an unknown kind, become width 0, which every call refuses 4 at its place.
-pub fn component(kind: u32, value: u32) -> Component {
+pub fn component(kind: u32, value: u32) -> Component
+    ensures { result ≡ component_of kind value }
+{
     let Ok(limit) = u16::try_from(value) else {
         return Component::Width(0);
     };
