@@ -14,42 +14,46 @@ mod routing;
 mod shared;
 mod tabled;
 
-use exchange::{frames, requests};
+use exchange::frames;
+use exchange::frames::Frame;
+use exchange::requests::{Request, Unanswered};
 use std::io;
 use std::io::Read;
 
-// Answers one request; false where it is none.
-fn answer(rt: &impl Print, words: &[u32]) -> io::Result<bool> {
-    match requests::number(words, requests::CALL) {
-        1 => report::laws_call(rt, words),
-        2 => routing::fresh_call(rt, words),
-        3 => routing::steps_call(rt, words),
-        4 => routing::equation_call(rt, words),
-        5 => tabled::forward_call(rt, words),
-        6 => hopping::hop_call(rt, words),
-        7 => lent::lent_call(rt, words),
-        8 => lent::which_call(rt, words),
-        9 => filed::read_call(rt, words),
-        10 => printed::print_call(rt, words),
-        _ => Ok(false),
+// Puts the answer of one request, where it has one.
+fn answer(words: &[u32], response: &mut Frame) -> Result<(), Unanswered> {
+    let request = Request::read(words)?;
+    match request.call {
+        1 => report::laws_call(&request, response),
+        2 => routing::fresh_call(&request, response),
+        3 => routing::steps_call(&request, response),
+        4 => routing::equation_call(&request, response),
+        5 => tabled::forward_call(&request, response),
+        6 => hopping::hop_call(&request, response),
+        7 => lent::lent_call(&request, response),
+        8 => lent::which_call(&request, response),
+        9 => filed::read_call(&request, response),
+        10 => printed::print_call(&request, response),
+        _ => Err(Unanswered::NoRequest),
     }
 }
 
 // Reads one request and answers it; false where there is none.
 fn serve(rt: &impl Print, input: &mut impl Read) -> io::Result<bool> {
-    let mut bytes = [0u8; 65536];
-    let size = frames::receive(input, &mut bytes)?;
-    let mut words = [0u32; 16384];
-    let count = frames::to_words(&bytes, size, &mut words);
-    if words.len() < count {
-        return Ok(false);
+    let mut words = [0; 16384];
+    let request = frames::receive(input, &mut words)?;
+    let mut response = Frame::new();
+    match answer(request, &mut response) {
+        Ok(()) => response.send(rt)?,
+        Err(Unanswered::TooLong) => frames::send_too_long(rt)?,
+        Err(Unanswered::NoRequest) => return Ok(false),
     }
-    answer(rt, &words[..count])
+    Ok(true)
 }
 
 fn main(rt: HostRuntime) -> io::Result<()> {
     let mut input = rt.stdin();
-    for _ in 0..1000000000000u64 {
+    for _ in 0..1_000_000_000_000u64 {
         if !serve(&rt, &mut input)? {
             return Ok(());
         }

@@ -1,55 +1,38 @@
 // The law report: three held words, and twelve words for each law.
-use super::shared::done;
-use exchange::{frames, requests};
+use exchange::frames::Frame;
+use exchange::requests::{Request, Unanswered};
 use laws::{Law, LawReport, Witness};
-use refusals::Refusal;
-use std::io;
-use weights::PerPlace;
-
-// Puts the four words of a weight.
-fn put_words(frame: &mut [u8], at: usize, w: PerPlace<u32>) -> usize {
-    let words = [w.first, w.second, w.third, w.fourth];
-    frames::put(frame, at, &words)
-}
+use refusals::Told;
 
 // Puts the twelve words of a law: s, x and y.
-fn put_law(frame: &mut [u8], at: usize, law: Law) -> usize {
+fn put_law(response: &mut Frame, law: Law) {
     let Witness { s, x, y } = law.witness();
-    let after_s = put_words(frame, at, s);
-    let after_x = put_words(frame, after_s, x);
-    put_words(frame, after_x, y)
+    for w in [s, x, y] {
+        response.put(&[w.first, w.second, w.third, w.fourth]);
+    }
 }
 
-// Sends the report of the three laws.
-fn send_report(rt: &impl Print, laws: LawReport) -> io::Result<()> {
+// Puts the report of the three laws.
+fn put_report(response: &mut Frame, laws: LawReport) {
     let LawReport { d, u, c } = laws;
-    let mut frame = [0u8; 65536];
-    let start = frames::begin(&mut frame, done());
-    let flags = [d, u, c].map(|law| law.is_held() as u32);
-    let after_flags = frames::put(&mut frame, start, &flags);
-    let after_d = put_law(&mut frame, after_flags, d);
-    let after_u = put_law(&mut frame, after_d, u);
-    let end = put_law(&mut frame, after_u, c);
-    frames::send(rt, &mut frame, end)
+    response.put(&[d, u, c].map(|law| law.is_held() as u32));
+    put_law(response, d);
+    put_law(response, u);
+    put_law(response, c);
 }
 
-// Sends a refusal, every other field zero.
-fn send_no_report(rt: &impl Print, r: Refusal) -> io::Result<()> {
-    let mut frame = [0u8; 65536];
-    let start = frames::begin(&mut frame, refusals::tell(r));
-    let zeros = [0u32; 39];
-    let end = frames::put(&mut frame, start, &zeros);
-    frames::send(rt, &mut frame, end)
-}
-
-// Call 1.
-pub fn laws_call(rt: &impl Print, words: &[u32]) -> io::Result<bool> {
-    if !requests::adds_up(words, 0) {
-        return Ok(false);
+// Call 1; no buffer. On a refusal every value is 0.
+pub fn laws_call(request: &Request<'_>, response: &mut Frame) -> Result<(), Unanswered> {
+    request.buffers(0)?;
+    match laws::laws(request.language) {
+        Ok(laws) => {
+            response.put_told(Told::DONE);
+            put_report(response, laws);
+        }
+        Err(refusal) => {
+            response.put_told(Told::from(refusal));
+            response.put(&[0; 39]);
+        }
     }
-    match laws::laws(requests::language(words)) {
-        Ok(laws) => send_report(rt, laws)?,
-        Err(r) => send_no_report(rt, r)?,
-    }
-    Ok(true)
+    Ok(())
 }

@@ -1,7 +1,7 @@
-// What the calls share: the told row of an answer, and buffers copied from a request.
-use exchange::frames;
-use refusals::{Answer, Told};
-use std::io;
+// What the calls share: the network of a request, copies of the buffers that a call may write, the row of an answer.
+use exchange::requests::{Request, Unanswered};
+use guards::network::Network;
+use refusals::{Refusal, Told};
 
 // The room for a matrix that a call writes.
 pub const ROOM: usize = 1280;
@@ -9,38 +9,26 @@ pub const ROOM: usize = 1280;
 // The room for a table that a call writes.
 pub const TABLE_ROOM: usize = 2816;
 
-// The row of done.
-pub fn done() -> Told {
-    Told {
-        number: 0,
-        which: 0,
-        place: 0,
+pub fn network<'b>(request: &Request<'_>, arcs: &'b [u32]) -> Network<'b> {
+    Network {
+        language: request.language,
+        n: request.n,
+        arcs,
     }
+}
+
+// A copy of a buffer, at the start of the room for it.
+pub fn copy<'b>(given: &[u32], room: &'b mut [u32]) -> Result<&'b mut [u32], Unanswered> {
+    let size = given.len();
+    if room.len() < size {
+        return Err(Unanswered::TooLong);
+    }
+    let copy = &mut room[..size];
+    copy.copy_from_slice(given);
+    Ok(copy)
 }
 
 // The row of an answer that gives no number.
-pub fn told(answer: Answer) -> Told {
-    match answer {
-        Answer::Done => done(),
-        Answer::Refused(r) => refusals::tell(r),
-    }
-}
-
-// Copies as much as there is room for.
-pub fn copy(from: &[u32], to: &mut [u32]) {
-    for (i, word) in from.iter().enumerate() {
-        if to.len() <= i {
-            return;
-        }
-        to[i] = *word;
-    }
-}
-
-// Sends a response of an answer's row, its values, and one buffer.
-pub fn respond(rt: &impl Print, row: Told, values: &[u32], buffer: &[u32]) -> io::Result<()> {
-    let mut frame = [0u8; 65536];
-    let start = frames::begin(&mut frame, row);
-    let after_values = frames::put(&mut frame, start, values);
-    let end = frames::put(&mut frame, after_values, buffer);
-    frames::send(rt, &mut frame, end)
+pub fn told(answer: Result<(), Refusal>) -> Told {
+    answer.err().map_or(Told::DONE, Told::from)
 }

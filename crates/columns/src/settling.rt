@@ -1,4 +1,5 @@
 // Settle steps: column j set to the best weights, which at most n - 1 passes over the fresh column make.
+// `GivenArcs`, the bounds and p, n, a stay clauses and arguments: `settle_column` and `settle` are public, and a struct would lengthen each clause.
 ghost use Rattle.std.specs.Prelude.{◌≡◌, false, ◌++◌, ◌+◌, ◌*◌, ◌≤◌, ◌<◌, length, take, drop};
 ghost use Rattle.algebra.specs.Best.{best};
 ghost use Rattle.algebra.specs.Step.{settle, step};

@@ -5,16 +5,18 @@ use std::env::FillError;
 use std::rt::{Env, Files};
 use std::{fs, io, str};
 
+// A path is text: a name that is none can't be opened.
+fn open<R: Files>(rt: &R, name: &[u8]) -> Option<R::File> {
+    let path = str::from_utf8(name).ok()?;
+    fs::open(rt, path).ok()
+}
+
 fn print_named(rt: &(impl Files + Print), name: &[u8]) -> io::Result<()> {
     rt.write_all(name)?;
     rt.write_all(b"\n")?;
-    // A path is text: a name that is none can't be opened.
-    let Ok(path) = str::from_utf8(name) else {
-        return rt.write_all(b"no such file\n");
-    };
-    match fs::open(rt, path) {
-        Ok(mut file) => printer::print_from(&mut file, &mut io::writer(rt)),
-        Err(_) => rt.write_all(b"no such file\n"),
+    match open(rt, name) {
+        Some(mut file) => printer::print_from(&mut file, &mut io::writer(rt)),
+        None => rt.write_all(b"no such file\n"),
     }
 }
 

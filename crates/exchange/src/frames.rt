@@ -1,80 +1,85 @@
-// Frames that are read and written, and words as bytes.
+// Frames that are read and written: 32-bit words, the lowest byte first, of which the first says how many follow.
 ghost use Rattle.std.specs.Prelude.{◌≤◌, length, IfOk};
+ghost use Rattle.exchange.specs.declared.frames.TheConstants.{FRAME_BYTES, WORD_BYTES};
 
 use inputs::read_full;
 use refusals::Told;
 use std::io;
 use std::io::Read;
 
-// The word whose bytes start at a place; 0 where they do not all stand there.
-fn word_at(bytes: &[u8], at: usize) -> u32 {
-    match bytes.get(at..) {
-        Some([a, b, c, d, ..]) => u32::from_le_bytes([*a, *b, *c, *d]),
-        _ => 0,
-    }
-}
+const FRAME_BYTES: usize = 65536;
 
-// Reads a request without its first word, and says how many bytes it has; 0 where there is none.
-pub fn receive(input: &mut impl Read, bytes: &mut [u8]) -> io::Result<usize>
-    ensures { IfOk result (λ size. size ≤ length bytes.new) }
+const WORD_BYTES: usize = 4;
+
+// Reads the words of a request behind its first. There are none where there is no request, or no room for it.
+pub fn receive<'w>(input: &mut impl Read, words: &'w mut [u32]) -> io::Result<&'w [u32]>
+    ensures { IfOk result (λ request. length request.now ≤ length words.old) }
 {
-    let mut first = [0; 4];
-    if read_full(input, &mut first)? < 4 {
-        return Ok(0);
+    let mut first = [0; WORD_BYTES];
+    if read_full(input, &mut first)? < WORD_BYTES {
+        return Ok(&[]);
     }
-    let size = u32::from_le_bytes(first) as usize * 4;
-    if bytes.len() < size {
-        return Ok(0);
+    let count = u32::from_le_bytes(first) as usize;
+    let size = count * WORD_BYTES;
+    let mut bytes = [0; FRAME_BYTES];
+    if words.len() < count || FRAME_BYTES < size || read_full(input, &mut bytes[..size])? < size {
+        return Ok(&[]);
     }
-    if read_full(input, &mut bytes[..size])? < size {
-        return Ok(0);
+    let (read, _) = bytes.as_chunks();
+    for (word, four) in words.iter_mut().zip(read) {
+        *word = u32::from_le_bytes(*four);
     }
-    Ok(size)
+    Ok(&words[..count])
 }
 
-// The words of the first `size` bytes, and how many there are.
-pub fn to_words(bytes: &[u8], size: usize, words: &mut [u32]) -> usize {
-    let count = words.len().min(size / 4);
-    for i in 0..count {
-        words[i] = word_at(bytes, i * 4);
-    }
-    count
+// A response that is being written: its bytes so far, whose first word is put when it is sent.
+#[derive(Drop)]
+pub struct Frame {
+    bytes: [u8; FRAME_BYTES],
+    end: usize,
+    ghost in_room: { (WORD_BYTES ≤ end) × (end ≤ FRAME_BYTES) },
 }
 
-pub fn low_byte(word: u32) -> u8 {
-    (word & 0xff) as u8
-}
-
-// Puts words into a frame from a place on, as far as there is room, and gives the place after them.
-pub fn put(frame: &mut [u8], start: usize, words: &[u32]) -> usize {
-    let mut at = start;
-    for word in words {
-        if frame.len() < at || frame.len() - at < 4 {
-            break;
+impl Frame {
+    pub fn new() -> Frame {
+        Frame {
+            bytes: [0; FRAME_BYTES],
+            end: WORD_BYTES,
         }
-        frame[at..at + 4].copy_from_slice(&word.to_le_bytes());
-        at += 4;
     }
-    at
-}
 
-// Begins a response; its first word is put when it is sent.
-pub fn begin(frame: &mut [u8], t: Told) -> usize {
-    put(frame, 0, &[0, t.number, t.which, t.place])
-}
-
-// Sends a response that ends at a place.
-pub fn send(rt: &impl Print, frame: &mut [u8], end: usize) -> io::Result<()> {
-    if frame.len() < end || end < 4 || 65536 < end {
-        return Ok(());
+    // Puts bytes, and zeros up to a whole word, where there is room for them.
+    pub fn put_bytes(&mut self, bytes: &[u8]) {
+        let end = self.end + bytes.len();
+        if FRAME_BYTES < end {
+            return;
+        }
+        self.bytes[self.end..end].copy_from_slice(bytes);
+        self.end = end.next_multiple_of(WORD_BYTES);
     }
-    put(frame, 0, &[(end / 4 - 1) as u32]);
-    rt.write_all(&frame[..end])
+
+    // Puts words, as far as there is room.
+    pub fn put(&mut self, words: &[u32]) {
+        for word in words {
+            self.put_bytes(&word.to_le_bytes());
+        }
+    }
+
+    // Puts the row that a call tells.
+    pub fn put_told(&mut self, told: Told) {
+        self.put(&[told.number, told.which, told.place]);
+    }
+
+    pub fn send(&mut self, rt: &impl Print) -> io::Result<()> {
+        let others = (self.end / WORD_BYTES - 1) as u32;
+        self.bytes[0..WORD_BYTES].copy_from_slice(&others.to_le_bytes());
+        rt.write_all(&self.bytes[..self.end])
+    }
 }
 
-// A response for a buffer that is too long for this program.
+// Sends the response for a buffer that is too long for this program.
 pub fn send_too_long(rt: &impl Print) -> io::Result<()> {
-    let mut frame = [0; 8];
-    put(&mut frame, 0, &[1, u32::MAX]);
-    rt.write_all(&frame)
+    let mut frame = Frame::new();
+    frame.put(&[u32::MAX]);
+    frame.send(rt)
 }

@@ -1,38 +1,40 @@
-// The parts of a request: numbers, a language, buffers.
-ghost use Rattle.std.specs.Prelude.{◌≤◌, length};
-ghost use Rattle.exchange.specs.Parts.{InOrder};
+// The parts of a request: its numbers, its language, its buffers.
+ghost use Rattle.std.specs.Prelude.{◌≡◌, ◌++◌, drop, IfOk};
 
 use weights::{Component, Language};
 
-// The places of a request's numbers; the language's follow the call's.
-pub const CALL: usize = 0;
+// The numbers of a request: the call, nine of the language, n, m, mode, i and j.
+const NUMBERS: usize = 15;
 
-pub const NODES: usize = 10;
-
-pub const DESTINATIONS: usize = 11;
-
-pub const MODE: usize = 12;
-
-pub const FROM: usize = 13;
-
-pub const TO: usize = 14;
-
-// The lengths of the buffers follow the numbers.
-const LENGTHS: usize = 15;
-
-// Where the first buffer starts, and where each of four ends.
-#[derive(Clone, Copy)]
-pub struct Parts {
-    pub start: usize,
-    pub first: usize,
-    pub second: usize,
-    pub third: usize,
-    pub fourth: usize,
+// Why a request is not answered as its call would.
+#[derive(Clone, Copy, Debug, PartialEq, Eq)]
+pub enum Unanswered {
+    // It has not just the words that it states, or no call that there is.
+    NoRequest,
+    // A buffer is longer than the program's room for it.
+    TooLong,
 }
 
-// A number of a request; 0 past its end.
-pub fn number(words: &[u32], at: usize) -> u32 {
-    words.get(at).copied().unwrap_or(0)
+// A request that is read: its numbers, and what follows them.
+#[derive(Clone, Copy)]
+pub struct Request<'w> {
+    pub call: u32,
+    pub language: Language,
+    pub n: u32,
+    pub m: u32,
+    pub mode: u32,
+    pub from: u32,
+    pub to: u32,
+    // The lengths of the buffers, then the buffers.
+    pub after: &'w [u32],
+}
+
+#[derive(Clone, Copy)]
+pub struct Buffers<'w> {
+    pub first: &'w [u32],
+    pub second: &'w [u32],
+    pub third: &'w [u32],
+    pub fourth: &'w [u32],
 }
 
 // Limits are 16-bit numbers. A larger one, and an unknown kind, become width 0.
@@ -49,62 +51,62 @@ fn component(kind: u32, value: u32) -> Component {
     }
 }
 
-pub fn language(words: &[u32]) -> Language {
+fn language(numbers: &[u32; NUMBERS]) -> Language {
     Language {
-        count: number(words, 1),
-        first: component(number(words, 2), number(words, 3)),
-        second: component(number(words, 4), number(words, 5)),
-        third: component(number(words, 6), number(words, 7)),
-        fourth: component(number(words, 8), number(words, 9)),
+        count: numbers[1],
+        first: component(numbers[2], numbers[3]),
+        second: component(numbers[4], numbers[5]),
+        third: component(numbers[6], numbers[7]),
+        fourth: component(numbers[8], numbers[9]),
     }
 }
 
-// The stated length of a buffer: of the first, 0, up to the fourth, 3; 0 where the call has fewer.
-fn buffer_length(words: &[u32], buffers: usize, which: usize) -> usize
-    ensures { result ≤ 4294967295 }
+// The first `count` words, and the others.
+fn split(words: &[u32], count: usize) -> Result<(&[u32], &[u32]), Unanswered>
+    ensures joined { IfOk result (λ p. p.0.now ++ p.1.now ≡ words.now) }
+    ensures rest { IfOk result (λ p. p.1.now ≡ drop count words.now) }
 {
-    if which < buffers && which <= 3 {
-        number(words, LENGTHS + which) as usize
-    } else {
-        0
+    words.split_at_checked(count).ok_or(Unanswered::NoRequest)
+}
+
+// The stated length of a buffer; 0 where the call has fewer.
+fn length(lengths: &[u32], which: usize) -> usize {
+    lengths.get(which).map_or(0, |length| *length as usize)
+}
+
+impl<'w> Request<'w> {
+    pub fn read(words: &'w [u32]) -> Result<Self, Unanswered> {
+        let parts = words.split_first_chunk::<NUMBERS>();
+        let (numbers, after) = parts.ok_or(Unanswered::NoRequest)?;
+        Ok(Request {
+            call: numbers[0],
+            language: language(numbers),
+            n: numbers[10],
+            m: numbers[11],
+            mode: numbers[12],
+            from: numbers[13],
+            to: numbers[14],
+            after,
+        })
     }
-}
 
-// The request has just the words that it states.
-pub fn adds_up(words: &[u32], buffers: usize) -> bool {
-    buffers <= 4
-        && LENGTHS
-            + buffers
-            + buffer_length(words, buffers, 0)
-            + buffer_length(words, buffers, 1)
-            + buffer_length(words, buffers, 2)
-            + buffer_length(words, buffers, 3)
-            == words.len()
-}
-
-// The place a number of words on, but none past the end.
-fn forth(start: usize, count: usize, end: usize) -> usize
-    requires { start ≤ end }
-    ensures { (start ≤ result) × (result ≤ end) }
-{
-    start + count.min(end - start)
-}
-
-pub fn cut(words: &[u32], buffers: usize) -> Parts
-    ensures { InOrder result (length words.now) }
-{
-    let end = words.len();
-    let numbers = forth(0, LENGTHS, end);
-    let start = forth(numbers, buffers, end);
-    let first = forth(start, buffer_length(words, buffers, 0), end);
-    let second = forth(first, buffer_length(words, buffers, 1), end);
-    let third = forth(second, buffer_length(words, buffers, 2), end);
-    let fourth = forth(third, buffer_length(words, buffers, 3), end);
-    Parts {
-        start,
-        first,
-        second,
-        third,
-        fourth,
+    // The buffers, the first `count` of four; the others are empty. They have the lengths that are stated, and no word is left.
+    pub fn buffers(&self, count: usize) -> Result<Buffers<'w>, Unanswered>
+        ensures { IfOk result (λ b. b.first.now ++ b.second.now ++ b.third.now ++ b.fourth.now ≡ drop count self.now.after.now) }
+    {
+        let (lengths, rest) = split(self.after, count)?;
+        let (first, rest) = split(rest, length(lengths, 0))?;
+        let (second, rest) = split(rest, length(lengths, 1))?;
+        let (third, rest) = split(rest, length(lengths, 2))?;
+        let (fourth, rest) = split(rest, length(lengths, 3))?;
+        if !rest.is_empty() {
+            return Err(Unanswered::NoRequest);
+        }
+        Ok(Buffers {
+            first,
+            second,
+            third,
+            fourth,
+        })
     }
 }

@@ -69,7 +69,7 @@ fn nothing() -> Found
 #[tactic(auto, using(crate::proofs::Passing::fields_small), unfolding(crate::specs::Header::head_read))]
 pub fn header(file: &[u8]) -> Result<SoundHead, Refusal>
     ensures value { result ≡ head_read file.now }
-    ensures small_head_read { SmallHeadRead file.now result }
+    ensures small { SmallHeadRead file.now result }
 {
     fields_check(file)?;
     let Taken { next, found } = language(file, 8, nothing())?;

@@ -1,4 +1,5 @@
 // A language in the file: one component, or two languages under a product, nested.
+// `LanguageBegins` and the bounds stay clauses: `language` is public, and a type with them would ask more of a caller.
 ghost use Rattle.std.specs.Prelude.{◌≡◌, ◌<◌, ◌≤◌, length};
 ghost use Rattle.weights.specs.Sizes.{places, product_tags};
 ghost use Rattle.fields.specs.Nested.{added, with_component, with_tag, width_read, class_read, component_read, language_at};

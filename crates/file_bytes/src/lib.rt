@@ -1,5 +1,6 @@
 // Bytes of a file by their offset; of several bytes the first is the largest. A byte past the end counts as 0: whether a field is
 // there is a check of its own.
+// `ByteOffset` stays a clause: `two` and `limit` are public, and a type with it would ask more of a caller.
 #![tactic(auto)]
 
 ghost use Rattle.std.specs.Prelude.{◌≡◌, ◌≤◌, get_or};

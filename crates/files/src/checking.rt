@@ -13,7 +13,7 @@ use refusals::Refusal;
 #[tactic(auto, unfolding(crate::specs::File::file_read))]
 pub fn check_file(file: &[u8]) -> Result<SoundHead, Refusal>
     ensures value { result ≡ file_read file.now }
-    ensures small_head_read { SmallHeadRead file.now result }
+    ensures small { SmallHeadRead file.now result }
 {
     if file.len() < 4 || four(file) != file.len() - 4 {
         return Err(Refusal::Bytes { which: 0, place: 0 });

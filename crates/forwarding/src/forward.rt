@@ -13,7 +13,7 @@ use table_guards::{check_destinations, check_mode, check_table_length, chosen_mo
 
 // Makes f the table whose entry (i, d) is the best over k of R(i,k) applied to M(k,d). Refuses 3, 5, 4, 9, 10, 6 on A, R and M, 12.
 pub fn forward(tables: &Tables<'_>, f: &mut [u32]) -> Result<(), Refusal>
-    ensures result_value { answer_told result ≡ answer_told (forward_check tables.now f.old) }
+    ensures answer { answer_told result ≡ answer_told (forward_check tables.now f.old) }
     ensures f_after { f.new ≡ forward_left tables.now f.old }
 {
     let network = &tables.network;

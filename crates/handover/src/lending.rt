@@ -29,8 +29,8 @@ pub fn lender(
 // Row i of a matrix, lent.
 fn row_of<'b>(s: &'b [u32], n: usize, i: usize) -> &'b [u32]
     requires { Square n s.now × (i < n) }
-    ensures result_value { result.now ≡ row_part n i s.now }
-    ensures ref_ptr_value { result.ref_ptr ≡ row_start n i s.entry.ref_ptr }
+    ensures words { result.now ≡ row_part n i s.now }
+    ensures place { result.ref_ptr ≡ row_start n i s.entry.ref_ptr }
 {
     let words = n * WEIGHT_WORDS;
     let at = i * words;
@@ -44,8 +44,8 @@ pub fn lent_row<'b>(
     newer: &'b [u32],
     i: u32,
 ) -> &'b [u32]
-    ensures result_value { result.now ≡ lent_row network.now standing.now newer.now i }
-    ensures ref_ptr_value { result.ref_ptr ≡ lent_start network.now standing.now newer.now i standing.entry.ref_ptr newer.entry.ref_ptr }
+    ensures words { result.now ≡ lent_row network.now standing.now newer.now i }
+    ensures place { result.ref_ptr ≡ lent_start network.now standing.now newer.now i standing.entry.ref_ptr newer.entry.ref_ptr }
 {
     match lender(network, standing, newer, i) {
         Ok(Lender::Newer) => row_of(newer, network.n as usize, i as usize),

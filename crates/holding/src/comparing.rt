@@ -1,4 +1,5 @@
 // Is every entry of a matrix the best weight? Column by column, word by word, out at the first difference.
+// `GivenArcs`, `Square` and p, n, a stay clauses and arguments: `all_best` is public, and a struct would lengthen each clause.
 ghost use Rattle.std.specs.Prelude.{◌≡◌, ◌+◌, ◌*◌, ◌≤◌, ◌<◌, length};
 ghost use Rattle.algebra.specs.Best.{best};
 ghost use Rattle.weights.specs.Sizes.{places, weight_words};

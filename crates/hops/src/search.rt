@@ -1,4 +1,5 @@
 // The next hop's rule: the lowest k other than i whose arc gives the route its weight.
+// `Given`, the bounds and p, n, a, r stay clauses and arguments: `hop` is public, and a struct would lengthen each clause.
 ghost use Rattle.std.specs.Prelude.{◌≡◌, ◌<◌};
 ghost use Rattle.weights.specs.Sizes.{places};
 ghost use Rattle.weights.specs.Languages.{places_of};

@@ -1,4 +1,5 @@
 // The fresh matrix: units on the diagonal, no route elsewhere.
+// `Square` and the bounds stay clauses: `fresh` and `fresh_row` are public, and a type with them would ask more of a caller.
 ghost use Rattle.std.specs.Prelude.{◌≡◌, ◌++◌, ◌*◌, ◌≤◌, length, drop};
 ghost use Rattle.algebra.specs.Step.{fresh};
 ghost use Rattle.weights.specs.Sizes.{weight_words};

@@ -1,4 +1,5 @@
 // A weight applied to an entry: join the weight, keep t.
+// That sums don't wrap stays a clause: `apply` is public, and a type with it would ask more of a caller.
 ghost use Rattle.std.specs.Prelude.{◌≡◌};
 ghost use Rattle.weights.specs.Languages.{places_of};
 ghost use Rattle.weights.specs.Values.{weight_of, AtMost};

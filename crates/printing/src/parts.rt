@@ -1,4 +1,5 @@
 // The parts of the text: the laws, the routes, and the forwarding entries, each with the refusal that takes its place.
+// `Square`, `Sized` and the bounds stay clauses: the functions are public, and a type with them would ask more of a caller.
 ghost use Rattle.std.specs.Prelude.{◌++◌, ◌+◌, ◌*◌, ◌≤◌, length};
 ghost use Rattle.weights.specs.Sizes.{places};
 ghost use Rattle.matrices.specs.Buffers.{Square};

@@ -1,4 +1,5 @@
 // The work: a list of sweeps over all rows, run from fresh; then the forwarding table.
+// The bounds on n stay clauses: `work_routes` is public, and a type with them would ask more of a caller.
 ghost use Rattle.std.specs.Prelude.{◌≡◌, ◌+◌, ◌-◌, ◌*◌, ◌≤◌, ◌<◌, length};
 ghost use Rattle.decimals.specs.Texts.{Put};
 ghost use Rattle.refusals.specs.Checks.{answer_told};

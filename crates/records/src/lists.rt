@@ -1,4 +1,5 @@
 // The two lists of records, each with its count, and nothing after them.
+// The bounds on offsets and on a language's count stay clauses: `list_end` and `body_check` are public, and a type with them would ask more.
 ghost use Rattle.std.specs.Prelude.{◌≡◌, ◌+◌, ◌≤◌};
 ghost use Rattle.weights.specs.Sizes.{places};
 ghost use Rattle.records.specs.Records.{records_check, record_list_check, list_end, body_check};

@@ -10,7 +10,7 @@ use weights::Language;
 
 // Makes r the fresh matrix: units on the diagonal, no route elsewhere. Refuses 3, 5, 4, 9, 10.
 pub fn fresh(l: Language, n: u32, r: &mut [u32]) -> Result<(), Refusal>
-    ensures result_value { answer_told result ≡ answer_told (fresh_check l n r.old) }
+    ensures answer { answer_told result ≡ answer_told (fresh_check l n r.old) }
     ensures r_after { r.new ≡ fresh_left l n r.old }
 {
     let p = enter(l, check_nodes(n), check_length(2, n, r))?;

@@ -1,4 +1,5 @@
 // The routing equation, row by row, with a way out at the first row that differs.
+// `Given`, the bounds and p, n, a, r stay clauses and arguments: `solves` is public, and a struct would lengthen each clause.
 ghost use Rattle.std.specs.Prelude.{◌≡◌, ◌*◌, ◌≤◌, ◌<◌, length};
 ghost use Rattle.weights.specs.Sizes.{places, weight_words};
 ghost use Rattle.weights.specs.Languages.{places_of};

@@ -1,4 +1,5 @@
 // The call that runs a list of steps, row steps and settles. It takes every input.
+// `Given` and p, n, a, r stay a clause and arguments, as those of `row_step` and `settle`, which are public, are.
 #![tactic(auto)]
 
 ghost use Rattle.std.specs.Prelude.{◌≡◌, true, [], ◌∷◌, map, ◌≤◌, length};
@@ -80,7 +81,7 @@ fn run(p: Places, n: usize, a: &[u32], r: &mut [u32], list: &[u32]) -> u32
 
 // Runs a list of steps on r. Refuses 3, 5, 4, 9, 10, 6 on A and R, 13, 7, and 11 while running: then the earlier steps stand.
 pub fn steps(network: &Network<'_>, r: &mut [u32], list: &[u32]) -> Result<u32, Stopped>
-    ensures result_value { steps_said result ≡ steps_row network.now r.old list.now }
+    ensures answer { steps_said result ≡ steps_row network.now r.old list.now }
     ensures r_after { r.new ≡ steps_left network.now r.old list.now }
 {
     let p = checks::ready(network, r)?;

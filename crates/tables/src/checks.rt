@@ -1,4 +1,5 @@
 // Refusal 6: the first malformed entry of a table.
+// `Sized` stays a clause: `first_malformed_entry` is public, and a type with it would ask more of a caller.
 ghost use Rattle.std.specs.Prelude.{◌≡◌};
 ghost use Rattle.weights.specs.Languages.{places_of};
 ghost use Rattle.tables.specs.Tables.{table_check, Sized};

@@ -1,4 +1,5 @@
 // Entries in buffers: looked up and read by a node and a destination, with malformed patterns told apart, and written.
+// `InTable` stays a clause: `look_up` and `read_entry` are public, and a type with it would ask more of a caller.
 ghost use Rattle.std.specs.Prelude.{◌≡◌, ◌+◌, ◌≤◌, ◌<◌, length};
 ghost use Rattle.std.proofs.lemmas.List.Edits.{sets};
 ghost use Rattle.weights.specs.Sizes.{places, entry_words};

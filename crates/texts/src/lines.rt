@@ -1,4 +1,5 @@
 // The lines: a word, its fields, and a line feed.
+// The room and the count stay clauses: the functions are public, and a type with them would ask more of a caller.
 ghost use Rattle.std.specs.Prelude.{[], ◌∷◌, ◌++◌, ◌+◌, ◌≤◌, length};
 ghost use Rattle.decimals.specs.Texts.{Put};
 ghost use Rattle.weights.specs.Values.{weight_of};

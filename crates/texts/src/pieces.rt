@@ -1,4 +1,5 @@
 // The fields of a line: numbers, each after a space, and the dash of what is missing.
+// The room and the count stay clauses: most functions are public, and a type with them would ask more of a caller.
 ghost use Rattle.std.specs.Prelude.{cond, [], ◌∷◌, ◌+◌, ◌≤◌, length, take};
 ghost use Rattle.decimals.specs.Texts.{Put};
 ghost use Rattle.weights.specs.Values.{weight_of};

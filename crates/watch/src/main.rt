@@ -2,6 +2,7 @@
 // matrix, handed to the new engine, each goes on confirming the other's route. One screen to a step.
 #![tactic(auto)]
 
+mod matrix;
 mod network;
 mod scenes;
 mod showing;

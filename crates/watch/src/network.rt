@@ -1,98 +1,94 @@
-// The network of the incident: nodes 0 and 1 are the depots, node 2 is the order server; every link carries 10.
-use weights::{Component, Language, ONES};
+// The network of the incident: two depots and an order server; every link carries 10.
+ghost use Rattle.std.specs.Prelude.{◌<◌};
+
+use super::matrix::Matrix;
+use guards::network::Network;
+use routes::FIRST_SETTLE;
+use std::fmt;
+use weights::{Component, Language};
+
+// A link carries up to 10, and more is better.
+pub const LANGUAGE: Language = Language {
+    count: 1,
+    first: Component::Width(LINK),
+    second: Component::Dist,
+    third: Component::Dist,
+    fourth: Component::Dist,
+};
 
 pub const NODES: u32 = 3;
 
-pub const NORTH: u32 = 0;
+const LINK: u16 = 10;
 
-pub const SOUTH: u32 = 1;
+#[derive(Clone, Copy, PartialEq, Eq)]
+pub enum Node {
+    North,
+    South,
+    Server,
+}
 
-pub const SERVER: u32 = 2;
+impl Node {
+    pub const ALL: [Node; 3] = [Node::North, Node::South, Node::Server];
 
-const WORDS: usize = 36;
-
-const LINK: u32 = 10;
-
-// A link carries up to 10, and more is better.
-pub fn language() -> Language {
-    Language {
-        count: 1,
-        first: Component::Width(10),
-        second: Component::Dist,
-        third: Component::Dist,
-        fourth: Component::Dist,
+    pub fn number(self) -> u32
+        ensures { result < 3 }
+    {
+        match self {
+            Node::North => 0,
+            Node::South => 1,
+            Node::Server => 2,
+        }
     }
 }
 
-// Where the entry of two nodes begins.
-pub fn place(i: u32, j: u32) -> usize {
-    if 2 < i {
-        return WORDS;
-    }
-    if 2 < j {
-        return WORDS;
-    }
-    (i as usize) * 12 + (j as usize) * 4
-}
-
-fn put(s: &mut [u32], at: usize, word: u32) {
-    if at < s.len() {
-        s[at] = word;
+impl fmt::Display for Node {
+    fn fmt<W: fmt::Write>(&self, f: &mut fmt::Formatter<W>) -> fmt::Result {
+        f.write_str(match self {
+            Node::North => "North",
+            Node::South => "South",
+            Node::Server => "the server",
+        })
     }
 }
 
-fn put_weight(s: &mut [u32], i: u32, j: u32, first: u32, others: u32) {
-    let at = place(i, j);
-    if WORDS <= at {
-        return;
+// The numbers of a row step of each node.
+pub fn sweep() -> [u32; 3] {
+    Node::ALL.map(|node| node.number())
+}
+
+// The numbers of a settle of each column.
+pub fn settles() -> [u32; 3] {
+    Node::ALL.map(|node| FIRST_SETTLE + node.number())
+}
+
+// A matrix of links.
+fn linked(links: &[(Node, Node)]) -> Matrix {
+    let mut matrix = Matrix::EMPTY;
+    for (from, to) in links {
+        matrix.put(*from, *to, [LINK as u32, 0, 0, 0]);
     }
-    put(s, at, first);
-    put(s, at + 1, others);
-    put(s, at + 2, others);
-    put(s, at + 3, others);
+    matrix
 }
 
-// The link from i to j.
-fn link(a: &mut [u32], i: u32, j: u32) {
-    put_weight(a, i, j, LINK, 0);
+// Before the incident each depot has a link to the other and one to the server.
+pub fn links_before() -> Matrix {
+    linked(&[
+        (Node::North, Node::South),
+        (Node::South, Node::North),
+        (Node::North, Node::Server),
+        (Node::South, Node::Server),
+    ])
 }
 
-pub fn cut(a: &mut [u32], i: u32, j: u32) {
-    put_weight(a, i, j, ONES, ONES);
+// The links to the server are lost.
+pub fn links_after() -> Matrix {
+    linked(&[(Node::North, Node::South), (Node::South, Node::North)])
 }
 
-pub fn no_links() -> [u32; 36] {
-    [ONES; 36]
-}
-
-// Each depot has a link to the other; these stay.
-fn depots(a: &mut [u32]) {
-    link(a, NORTH, SOUTH);
-    link(a, SOUTH, NORTH);
-}
-
-// Before the incident each depot has a link to the server as well.
-pub fn links_before(a: &mut [u32]) {
-    depots(a);
-    link(a, NORTH, SERVER);
-    link(a, SOUTH, SERVER);
-}
-
-pub fn links_after(a: &mut [u32]) {
-    depots(a);
-}
-
-// The first word of an entry: what it carries, or no route.
-pub fn carried(s: &[u32], i: u32, j: u32) -> u32 {
-    let at = place(i, j);
-    if at < s.len() {
-        return s[at];
-    }
-    ONES
-}
-
-pub fn copy(from: &[u32], to: &mut [u32]) {
-    for (at, word) in from.iter().enumerate() {
-        put(to, at, *word);
+pub fn network(links: &Matrix) -> Network<'_> {
+    Network {
+        language: LANGUAGE,
+        n: NODES,
+        arcs: &links.words,
     }
 }

@@ -1,180 +1,118 @@
 // What is told of the new matrix after each step: the rows that changed, whether the equation balances, the tight arcs that lead from
 // the two depots, and which matrix the forwarder is lent, and why. The equation, the tight arcs, the best and the lender are what the
 // library's calls answer; here they are compared and named.
-use super::{network, showing};
-use handover::LenderAnswer;
-use hops::HopAnswer;
-use routes::EquationAnswer;
-use std::io;
+use super::matrix::Matrix;
+use super::network::{Node, network};
+use handover::Lender;
+use handover::lending::lender;
+use hops::next_hop::next_hop;
+use routes::equation;
+use std::{fmt, io};
+
+fn is_changed(old: &Matrix, new: &Matrix, from: Node, to: Node) -> bool {
+    old.carried(from, to) != new.carried(from, to)
+}
 
 // ---- rows that changed
 
-fn entry_changed(old: &[u32], new: &[u32], i: u32, j: u32) -> bool {
-    network::carried(old, i, j) != network::carried(new, i, j)
-}
-
-fn row_changed(old: &[u32], new: &[u32], i: u32) -> bool {
-    if entry_changed(old, new, i, network::NORTH) {
-        return true;
+pub fn changed_rows(rt: &impl Print, old: &Matrix, new: &Matrix) -> io::Result<()> {
+    print!(rt; "\n  rows changed:         ")?;
+    let mut none = true;
+    for from in Node::ALL {
+        if Node::ALL.iter().any(|to| is_changed(old, new, from, *to)) {
+            print!(rt; " {from}")?;
+            none = false;
+        }
     }
-    if entry_changed(old, new, i, network::SOUTH) {
-        return true;
-    }
-    entry_changed(old, new, i, network::SERVER)
-}
-
-// Names a row that changed; true where it did.
-fn tell_row(rt: &impl Print, old: &[u32], new: &[u32], i: u32) -> io::Result<bool> {
-    if row_changed(old, new, i) {
-        showing::say(rt, b" ")?;
-        showing::name(rt, i)?;
-        return Ok(true);
-    }
-    Ok(false)
-}
-
-fn none_of(first: bool, second: bool, third: bool) -> bool {
-    if first {
-        return false;
-    }
-    if second {
-        return false;
-    }
-    !third
-}
-
-pub fn changed_rows(rt: &impl Print, old: &[u32], new: &[u32]) -> io::Result<()> {
-    showing::say(rt, b"\n  rows changed:         ")?;
-    let north = tell_row(rt, old, new, network::NORTH)?;
-    let south = tell_row(rt, old, new, network::SOUTH)?;
-    let server = tell_row(rt, old, new, network::SERVER)?;
-    if none_of(north, south, server) {
-        showing::say(rt, b" none")?;
-    }
-    showing::say(rt, b"\n")
+    println!(rt; "{}", if none { " none" } else { "" })
 }
 
 // ---- the equation
 
-pub fn equation(rt: &impl Print, a: &[u32], r: &[u32]) -> io::Result<()> {
-    showing::say(rt, b"  the equation:          ")?;
-    match routes::equation::equation(network::language(), network::NODES, a, r) {
-        EquationAnswer::Yes => showing::say(rt, b"balances\n"),
-        EquationAnswer::No => showing::say(rt, b"does not balance\n"),
-        EquationAnswer::Refused(_) => showing::say(rt, b"refused\n"),
-    }
+pub fn balance(rt: &impl Print, links: &Matrix, routes: &Matrix) -> io::Result<()> {
+    let said = match equation::equation(&network(links), &routes.words) {
+        Ok(true) => "balances",
+        Ok(false) => "does not balance",
+        Err(_) => "refused",
+    };
+    println!(rt; "  the equation:          {said}")
 }
 
 // ---- tight arcs
 
+// Each arc of a depot, from and to, and where the depot's other arc leads.
+const DEPOT_ARCS: [(Node, Node, Node); 4] = [
+    (Node::North, Node::South, Node::Server),
+    (Node::North, Node::Server, Node::South),
+    (Node::South, Node::North, Node::Server),
+    (Node::South, Node::Server, Node::North),
+];
+
 // An arc is tight where it gives the route to the server its weight: it is the next hop once the node's other arc is cut.
-fn is_tight(a: &[u32], r: &[u32], i: u32, k: u32, other: u32) -> bool {
-    let mut alone = network::no_links();
-    network::copy(a, &mut alone);
-    network::cut(&mut alone, i, other);
-    let l = network::language();
-    match hops::next_hop::next_hop(l, network::NODES, &alone, r, i, network::SERVER) {
-        HopAnswer::Hop(node) => node.0 == k as usize,
-        HopAnswer::NoHop => false,
-        HopAnswer::Refused(_) => false,
-    }
+fn is_tight(links: &Matrix, routes: &Matrix, from: Node, to: Node, other: Node) -> bool {
+    let mut alone = *links;
+    alone.cut(from, other);
+    let hop = next_hop(
+        &network(&alone),
+        &routes.words,
+        from.number(),
+        Node::Server.number(),
+    );
+    matches!(hop, Ok(Some(node)) if node.0 == to.number() as usize)
 }
 
-// Names the arc from i to k where it is tight.
-fn tell_tight(
-    rt: &impl Print,
-    a: &[u32],
-    r: &[u32],
-    i: u32,
-    k: u32,
-    other: u32,
-) -> io::Result<bool> {
-    if is_tight(a, r, i, k, other) {
-        showing::say(rt, b"\n                         ")?;
-        showing::name(rt, i)?;
-        showing::say(rt, b" -> ")?;
-        showing::name(rt, k)?;
-        return Ok(true);
+pub fn tight_arcs(rt: &impl Print, links: &Matrix, routes: &Matrix) -> io::Result<()> {
+    print!(rt; "  tight to the server:")?;
+    let mut none = true;
+    for (from, to, other) in DEPOT_ARCS {
+        if is_tight(links, routes, from, to, other) {
+            print!(rt; "\n                         {from} -> {to}")?;
+            none = false;
+        }
     }
-    Ok(false)
-}
-
-// The tight arcs of one depot on the way to the server.
-fn tell_depot(rt: &impl Print, a: &[u32], r: &[u32], depot: u32, other: u32) -> io::Result<bool> {
-    let to_other = tell_tight(rt, a, r, depot, other, network::SERVER)?;
-    let to_server = tell_tight(rt, a, r, depot, network::SERVER, other)?;
-    Ok(!none_of(to_other, to_server, false))
-}
-
-pub fn tight_arcs(rt: &impl Print, a: &[u32], r: &[u32]) -> io::Result<()> {
-    showing::say(rt, b"  tight to the server:")?;
-    let north = tell_depot(rt, a, r, network::NORTH, network::SOUTH)?;
-    let south = tell_depot(rt, a, r, network::SOUTH, network::NORTH)?;
-    if none_of(north, south, false) {
-        showing::say(rt, b"   none")?;
-    }
-    showing::say(rt, b"\n")
+    println!(rt; "{}", if none { "   none" } else { "" })
 }
 
 // ---- the matrix that is lent
 
-// The best matrix of the links: every column settled.
-pub fn best(a: &[u32], r: &mut [u32]) {
-    let settles = [256u32, 257, 258];
-    routes::fresh::fresh(network::language(), network::NODES, r);
-    steps::steps(network::language(), network::NODES, a, r, &settles);
-}
+// What a route carries, in words.
+#[derive(Clone, Copy)]
+struct Carried(Option<u32>);
 
-// Tells one entry where it is not the best; true where it is not.
-fn tell_entry(rt: &impl Print, held: &[u32], best: &[u32], i: u32, j: u32) -> io::Result<bool> {
-    if entry_changed(held, best, i, j) {
-        showing::say(rt, b"                         from ")?;
-        showing::name(rt, i)?;
-        showing::say(rt, b" to ")?;
-        showing::name(rt, j)?;
-        showing::say(rt, b" it holds ")?;
-        showing::carrying(rt, network::carried(held, i, j))?;
-        showing::say(rt, b", and the best is ")?;
-        showing::carrying(rt, network::carried(best, i, j))?;
-        showing::say(rt, b"\n")?;
-        return Ok(true);
+impl fmt::Display for Carried {
+    fn fmt<W: fmt::Write>(&self, f: &mut fmt::Formatter<W>) -> fmt::Result {
+        match self.0 {
+            Some(word) => write!(f, "{word}"),
+            None => f.write_str("no route"),
+        }
     }
-    Ok(false)
 }
 
 // Tells the first entry, by rows, that is not the best.
-fn tell_first(rt: &impl Print, a: &[u32], newer: &[u32]) -> io::Result<()> {
-    let mut best_matrix = network::no_links();
-    best(a, &mut best_matrix);
+fn tell_first(rt: &impl Print, newer: &Matrix, best: &Matrix) -> io::Result<()> {
     for i in 0..9 {
-        if tell_entry(rt, newer, &best_matrix, i / 3, i % 3)? {
-            return Ok(());
+        let from = Node::ALL[i / 3];
+        let to = Node::ALL[i % 3];
+        if is_changed(newer, best, from, to) {
+            let held = Carried(newer.carried(from, to));
+            let most = Carried(best.carried(from, to));
+            return println!(rt;
+                "                         from {from} to {to} it holds {held}, and the best is {most}"
+            );
         }
     }
     Ok(())
 }
 
-pub fn lent(rt: &impl Print, a: &[u32], standing: &[u32], newer: &[u32]) -> io::Result<()> {
-    showing::say(rt, b"  the forwarder is lent: ")?;
-    match handover::lending::lender(
-        network::language(),
-        network::NODES,
-        a,
-        standing,
-        newer,
-        network::NORTH,
-    ) {
-        LenderAnswer::Newer => showing::say(
-            rt,
-            b"the new matrix, since every entry of it is the best\n",
-        ),
-        LenderAnswer::Standing => {
-            showing::say(
-                rt,
-                b"the standing matrix, since the new one is not the best:\n",
-            )?;
-            tell_first(rt, a, newer)
+pub fn lent(rt: &impl Print, links: &Matrix, standing: &Matrix, newer: &Matrix) -> io::Result<()> {
+    print!(rt; "  the forwarder is lent: ")?;
+    let row = Node::North.number();
+    match lender(&network(links), &standing.words, &newer.words, row) {
+        Ok(Lender::Newer) => println!(rt; "the new matrix, since every entry of it is the best"),
+        Ok(Lender::Standing) => {
+            println!(rt; "the standing matrix, since the new one is not the best:")?;
+            tell_first(rt, newer, &Matrix::best(links))
         }
-        LenderAnswer::Refused(_) => showing::say(rt, b"nothing: the call was refused\n"),
+        Err(_) => println!(rt; "nothing: the call was refused"),
     }
 }

@@ -1,4 +1,5 @@
 // Whether a join can gain anything, seen from its first value alone.
+// That sums don't wrap stays a clause: `loses` is public, and a type with it would ask more of a caller.
 ghost use Rattle.std.specs.Prelude.{◌≡◌};
 ghost use Rattle.weights.specs.Languages.{places_of};
 ghost use Rattle.weights.specs.Values.{weight_of, AtMost};

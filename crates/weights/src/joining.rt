@@ -1,4 +1,5 @@
 // Joining: the weight of one thing after another.
+// That sums don't wrap stays a clause: `join` and `join_value` are public, and a type with it would ask more of a caller.
 ghost use Rattle.std.specs.Prelude.{◌≡◌, ◌≤◌};
 ghost use Rattle.weights.specs.Weights.{join_value, join};
 ghost use Rattle.weights.specs.Languages.{places_of};

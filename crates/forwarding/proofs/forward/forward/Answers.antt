@@ -48,4 +48,4 @@ returns c =
     found N c.args.f.now c.mode_for-chosen.ensures c.check_nodes.ensures c.check_destinations.ensures c.check_mode.ensures c.and-others.ensures c.and-sizes.ensures c.check_length-arcs.ensures c.check_length.ensures c.and-matrices.ensures
     c.check_table_length-mapping_length.ensures c.check_table_length-table_length.ensures c.and-table_lengths.ensures c.and.ensures in
     let whole = forward_done N c.args.f.now there c.in_ok-p.p c.in_ok-p.ensures (c.chosen_mode-meant.ensures ∙ ap chosen_mode c.mode_for-chosen.ensures) c.check_contents.ensures c.in_ok-check_contents.was _ c.forward_table.ensures in
-    rw (← c.tables.view_is, ← c.network.view_is) (record { result_value = whole.0; f_after = whole.1 })
+    rw (← c.tables.view_is, ← c.network.view_is) (record { answer = whole.0; f_after = whole.1 })

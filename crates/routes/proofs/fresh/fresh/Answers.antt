@@ -13,4 +13,4 @@ returns-in_err-p c = let s = c.args in
 
 pub returns : goal.returns
 returns c = let s = c.args in
-    let whole = fresh_done s.l s.n c.in_ok-p.p s.r.now _ (fresh_enters s.l s.n s.r.now c.check_nodes.ensures c.check_length.ensures c.in_ok-p.ensures).0 c.in_ok-p.ensures.in_places c.fresh.ensures in record { result_value = whole.0; r_after = whole.1 }
+    let whole = fresh_done s.l s.n c.in_ok-p.p s.r.now _ (fresh_enters s.l s.n s.r.now c.check_nodes.ensures c.check_length.ensures c.in_ok-p.ensures).0 c.in_ok-p.ensures.in_places c.fresh.ensures in record { answer = whole.0; r_after = whole.1 }
