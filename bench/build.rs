@@ -1,5 +1,5 @@
-//! Finds the archive of the proved library, and makes `equal.rs`: the library's own source without its contracts, which is
-//! Rust, compiled by the same compiler as the rest of the benchmark, with Rust's checks.
+//! Finds the archive of the proved library, and makes `equal.rs`: the library's own source without its contracts and models, which
+//! is Rust, compiled by the same compiler as the rest of the benchmark, with Rust's checks.
 
 use std::path::{Path, PathBuf};
 use std::{env, fs, process};
