@@ -1,6 +1,7 @@
 // One arc taken into a whole row. In a language of one component only the first values are joined; in others a join that loses by
 // its first value is not finished.
-// `Given`, the bounds and p, n, a, r stay clauses and arguments: `take_arc` is public, and in a struct `a.now` would be `arcs.now.words.now`.
+// `Given`, the bounds and p, n, a, r stay clauses and arguments: `take_arc` is public, and with a struct no clause is plainer
+// (docs/DESIGN-PASS.md). `single` is worked out once a row: a fact about the language, not a value's state.
 #![tactic(auto)]
 
 ghost use Rattle.std.specs.Prelude.{◌≡◌, true, ◌++◌, ℕ, ◌+◌, ◌*◌, ◌≤◌, ◌<◌, length, take, drop};

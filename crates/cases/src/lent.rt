@@ -1,5 +1,5 @@
 // The lent row, and which refusal made it empty.
-use super::shared::{ROOM, network, told};
+use super::shared::{ROOM, network};
 use exchange::frames::Frame;
 use exchange::requests::{Buffers, Request, Unanswered};
 use handover::{Lender, lending};
@@ -41,7 +41,7 @@ pub fn which_call(request: &Request<'_>, response: &mut Frame) -> Result<(), Una
         Err(_) => 0,
     };
     let answer = lending::which_refusal(&network, standing, newer, request.from);
-    response.put_told(told(answer));
+    response.put_told(Told::from(answer));
     response.put(&[lender]);
     Ok(())
 }

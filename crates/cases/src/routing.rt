@@ -1,5 +1,5 @@
 // Fresh, steps and the equation.
-use super::shared::{ROOM, copy, network, told};
+use super::shared::{ROOM, copy, network};
 use exchange::frames::Frame;
 use exchange::requests::{Buffers, Request, Unanswered};
 use refusals::Told;
@@ -10,7 +10,7 @@ pub fn fresh_call(request: &Request<'_>, response: &mut Frame) -> Result<(), Una
     let mut room = [0; ROOM];
     let r = copy(request.buffers(1)?.first, &mut room)?;
     let answer = routes::fresh::fresh(request.language, request.n, r);
-    response.put_told(told(answer));
+    response.put_told(Told::from(answer));
     response.put(r);
     Ok(())
 }

@@ -1,7 +1,6 @@
-// What the calls share: the network of a request, copies of the buffers that a call may write, the row of an answer.
+// What the calls share: the network of a request, and copies of the buffers that a call may write.
 use exchange::requests::{Request, Unanswered};
 use guards::network::Network;
-use refusals::{Refusal, Told};
 
 // The room for a matrix that a call writes.
 pub const ROOM: usize = 1280;
@@ -26,9 +25,4 @@ pub fn copy<'b>(given: &[u32], room: &'b mut [u32]) -> Result<&'b mut [u32], Una
     let copy = &mut room[..size];
     copy.copy_from_slice(given);
     Ok(copy)
-}
-
-// The row of an answer that gives no number.
-pub fn told(answer: Result<(), Refusal>) -> Told {
-    answer.err().map_or(Told::DONE, Told::from)
 }

@@ -1,8 +1,9 @@
 // Forwarding.
-use super::shared::{TABLE_ROOM, copy, network, told};
+use super::shared::{TABLE_ROOM, copy, network};
 use exchange::frames::Frame;
 use exchange::requests::{Buffers, Request, Unanswered};
 use forwarding::Tables;
+use refusals::Told;
 
 // Call 5: buffers a, r, mapping and f; no value, and f.
 pub fn forward_call(request: &Request<'_>, response: &mut Frame) -> Result<(), Unanswered> {
@@ -21,7 +22,7 @@ pub fn forward_call(request: &Request<'_>, response: &mut Frame) -> Result<(), U
         routes,
         mapping,
     };
-    response.put_told(told(forwarding::forward::forward(&tables, f)));
+    response.put_told(Told::from(forwarding::forward::forward(&tables, f)));
     response.put(f);
     Ok(())
 }

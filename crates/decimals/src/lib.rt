@@ -1,4 +1,5 @@
-// Numbers in decimal digits, as bytes.
+// Numbers in decimal digits, as bytes. `Put` speaks of `out.old`, the place and `out.new`: a struct of the buffer and its end would have to
+// keep all three, and `Display` would give no place.
 #![tactic(auto)]
 
 ghost use Rattle.std.specs.Prelude.{◌≡◌, ◌+◌, ◌≤◌, length};

@@ -6,13 +6,13 @@ use super::LANGUAGE_NUMBERS;
 use weights::{Component, Language};
 
 // The numbers of the kinds, which are the file's tags.
-const DIST: u16 = 1;
+pub(super) const DIST: u16 = 1;
 
-const WIDTH: u16 = 2;
+pub(super) const WIDTH: u16 = 2;
 
-const CLASS: u16 = 3;
+pub(super) const CLASS: u16 = 3;
 
-const GAIN: u16 = 4;
+pub(super) const GAIN: u16 = 4;
 
 // An unknown kind becomes width 0, which every call refuses 4 at its index.
 fn component(kind: u16, limit: u16) -> Component

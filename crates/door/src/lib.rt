@@ -23,9 +23,9 @@ pub const NEWER: u32 = 2;
 
 pub const STANDING: u32 = 5;
 
-// An answer: number, which and place, 0 0 0 being done, and the one number that the call gives.
+// An answer: number, which and place, 0 0 0 being done, and the one number that the call gives. Numbers, as the C interface has them.
 #[repr(C)]
-#[derive(Clone, Copy)]
+#[derive(Clone, Copy, Debug, PartialEq, Eq)]
 pub struct Reply {
     pub number: u32,
     pub which: u32,

@@ -4,6 +4,7 @@ ghost use Rattle.std.proofs.lemmas.List.Edits.{sets};
 ghost use Rattle.door.specs.Languages.{place_numbers};
 ghost use Rattle.door.specs.Problems.{problem_words, problem_of};
 
+use super::languages::{CLASS, DIST, GAIN, WIDTH};
 use super::storing::put_pair;
 use weights::{Component, Language};
 
@@ -13,10 +14,10 @@ fn put_place(s: &mut [u32], at: usize, c: Component)
     ensures { s.new ≡ sets s.old at (place_numbers c) }
 {
     match c {
-        Component::Dist => put_pair(s, at, 1, 0),
-        Component::Width(limit) => put_pair(s, at, 2, limit as u32),
-        Component::Class(limit) => put_pair(s, at, 3, limit as u32),
-        Component::Gain => put_pair(s, at, 4, 0),
+        Component::Dist => put_pair(s, at, DIST as u32, 0),
+        Component::Width(limit) => put_pair(s, at, WIDTH as u32, limit as u32),
+        Component::Class(limit) => put_pair(s, at, CLASS as u32, limit as u32),
+        Component::Gain => put_pair(s, at, GAIN as u32, 0),
     }
 }
 

@@ -7,41 +7,40 @@ ghost use Rattle.door.specs.Replies.{reply_of};
 use super::Reply;
 use refusals::{Refusal, Told};
 
+// A row, with the one number that the call gives.
+fn reply(told: Told, value: u32) -> Reply
+    ensures { result ≡ reply_of told value }
+{
+    let Told {
+        number,
+        which,
+        place,
+    } = told;
+    Reply {
+        number,
+        which,
+        place,
+        value,
+    }
+}
+
 // Done, with the one number that the call gives.
 pub fn done(value: u32) -> Reply
     ensures { result ≡ reply_of table.done value }
 {
-    Reply {
-        number: 0,
-        which: 0,
-        place: 0,
-        value,
-    }
+    reply(Told::DONE, value)
 }
 
 // A refusal, with the one number that the call gives.
 pub fn refused(r: Refusal, value: u32) -> Reply
     ensures { result ≡ reply_of (table.told r) value }
 {
-    let Told {
-        number,
-        which,
-        place,
-    } = Told::from(r);
-    Reply {
-        number,
-        which,
-        place,
-        value,
-    }
+    reply(Told::from(r), value)
 }
 
 // The answer of a call that gives no number.
 pub fn answered(a: Result<(), Refusal>) -> Reply
     ensures { result ≡ reply_of (answer_told a) 0 }
 {
-    match a {
-        Ok(()) => done(0),
-        Err(r) => refused(r, 0),
-    }
+    reply(Told::from(a), 0)
 }

@@ -1,4 +1,5 @@
-// Words stored two by two.
+// Words stored two by two, as a kind stands with its limit. The room stays a clause: the functions are public, and a type with it would ask
+// more of a caller.
 ghost use Rattle.std.specs.Prelude.{◌≡◌, ◌∷◌, [], ◌+◌, ◌≤◌, length};
 ghost use Rattle.std.proofs.lemmas.List.Edits.{sets};
 

@@ -7,21 +7,21 @@ pub mod languages;
 use weights::Language;
 
 // What has been read of a language: its product tags and its components so far.
-#[derive(Clone, Copy)]
+#[derive(Clone, Copy, Debug, PartialEq, Eq)]
 pub struct Found {
     pub tags: usize,
     pub language: Language,
 }
 
 // A language that was taken, with the offset after it.
-#[derive(Clone, Copy)]
+#[derive(Clone, Copy, Debug, PartialEq, Eq)]
 pub struct Taken {
     pub next: u32,
     pub found: Found,
 }
 
-// What stands before the two lists.
-#[derive(Clone, Copy)]
+// What stands before the two lists. The mode is the file's number, which the reader gives as it stands.
+#[derive(Clone, Copy, Debug, PartialEq, Eq)]
 pub struct Head {
     pub n: usize,
     pub m: usize,
@@ -30,7 +30,7 @@ pub struct Head {
 }
 
 // A sound head, with the offset of the arcs.
-#[derive(Clone, Copy)]
+#[derive(Clone, Copy, Debug, PartialEq, Eq)]
 pub struct SoundHead {
     pub next: u32,
     pub head: Head,

@@ -7,8 +7,9 @@ pub mod reading;
 
 use weights::Language;
 
-// What the reader gives: the numbers of the network and the language.
-#[derive(Clone, Copy)]
+// What the reader gives: the numbers of the network and the language. 32-bit numbers, as the calls take them, where a `Head` has sizes; the
+// mode is the number that `forward` refuses by.
+#[derive(Clone, Copy, Debug, PartialEq, Eq)]
 pub struct Problem {
     pub n: u32,
     pub m: u32,

@@ -7,7 +7,7 @@ pub mod forward;
 use guards::network::Network;
 use std::marker::Model;
 
-// What the call is given: a network, m, the number of the mode, and the words of R and M.
+// What the call is given: a network, m, the number of the mode, by which it is refused, and the words of R and M.
 #[derive(Drop)]
 pub struct Tables<'b> {
     pub network: Network<'b>,

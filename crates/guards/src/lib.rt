@@ -24,7 +24,8 @@ pub fn check_nodes(n: u32) -> Result<(), Refusal>
     Ok(())
 }
 
-// 9: the words of an n x n matrix; passed where n is over 16, since 3 is told before.
+// 9: the words of an n x n matrix; passed where n is over 16, since 3 is told before. Its twin is `check_table_length`: each is pinned by a
+// definition of its own, `length_measured` and `table_length_measured`.
 pub fn check_length(which: u32, n: u32, s: &[u32]) -> Result<(), Refusal>
     ensures { result ≡ length_measured which n s.now }
 {
@@ -52,7 +53,7 @@ pub fn check_laws(p: Places) -> Result<(), Refusal>
     Ok(())
 }
 
-// 7: the node that is the call's argument number `place`.
+// 7: the node that is the call's argument number `place`. Its twin is `end_check` of `records`: two lines, and neither crate stands on the other.
 pub fn check_node(place: u32, n: u32, i: u32) -> Result<(), Refusal>
     ensures { result ≡ (node_case place n i).check }
 {

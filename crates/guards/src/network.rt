@@ -2,7 +2,7 @@
 use std::marker::Model;
 use weights::Language;
 
-// A language, n, and the words of A. It is lent: a struct with a lifetime and a model cannot be `Copy` yet.
+// A language, n, and the words of A. It is lent, since no struct with a lifetime and a model is `Copy`.
 #[derive(Drop)]
 pub struct Network<'b> {
     pub language: Language,

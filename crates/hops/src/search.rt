@@ -1,5 +1,5 @@
 // The next hop's rule: the lowest k other than i whose arc gives the route its weight.
-// `Given`, the bounds and p, n, a, r stay clauses and arguments: `hop` is public, and a struct would lengthen each clause.
+// `Given`, the bounds and p, n, a, r stay clauses and arguments: `hop` is public, and with a struct no clause is plainer (docs/DESIGN-PASS.md).
 ghost use Rattle.std.specs.Prelude.{◌≡◌, ◌<◌};
 ghost use Rattle.weights.specs.Sizes.{places};
 ghost use Rattle.weights.specs.Languages.{places_of};
@@ -33,7 +33,7 @@ fn is_hop(
     weights::comparing::same(weights::joining::join(p, x, y), route)
 }
 
-// The lowest hop, by a loop that yields the found node, or none.
+// The lowest hop, by a loop that yields the found node, or none, as 01 wants it; so k is counted by hand.
 fn lowest_hop(
     p: Places,
     n: usize,

@@ -15,6 +15,7 @@ pub fn read_full<R: Read>(input: &mut R, buffer: &mut [u8]) -> io::Result<usize>
     ensures bytes { IfOk result (λ n. Consumes (R.remaining input.old) (R.remaining input.new) (take n buffer.new)) }
     ensures end { IfOk result (λ n. n < length buffer.new → IsAtEnd (R.remaining input.new)) }
 {
+    // `done` counts the bytes that the reads gave, not the turns.
     let mut done = 0;
     while done < buffer.len() {
         let got = input.read(&mut buffer[done..])?;

@@ -54,7 +54,7 @@ pub fn worst(c: Component) -> u32
     }
 }
 
-// Of two of its values the worse: of worst and unit, of 1 and 0 (dist), of 0 and 1 (gain).
+// The words of two witnesses, each a table of its own in 01. Of two of its values the worse: of worst and unit, of 1 and 0 (dist), of 0 and 1 (gain).
 pub fn worse_of_two(c: Component) -> u32
     ensures { result ≡ worse_of_two c }
 {

@@ -17,7 +17,7 @@ use refusals::Refusal;
 use weights::{Language, PerPlace, Places};
 
 // Weights that break a law: a value for each place of s, x and y.
-#[derive(Clone, Copy, Default)]
+#[derive(Clone, Copy, Debug, Default, PartialEq, Eq)]
 pub struct Witness {
     pub s: PerPlace<u32>,
     pub x: PerPlace<u32>,
@@ -25,14 +25,14 @@ pub struct Witness {
 }
 
 // A law of a language is held, or broken by s, x and y. An Option would not say which of the two is held.
-#[derive(Clone, Copy)]
+#[derive(Clone, Copy, Debug, PartialEq, Eq)]
 pub enum Law {
     Held,
     BrokenBy(Witness),
 }
 
 // The laws D, U and C of a language.
-#[derive(Clone, Copy)]
+#[derive(Clone, Copy, Debug, PartialEq, Eq)]
 pub struct LawReport {
     pub d: Law,
     pub u: Law,

@@ -1,5 +1,6 @@
 // Refusal 6: the first malformed entry of a matrix.
-// `Square` stays a clause: `first_malformed` is public, and a type with it would ask more of a caller.
+// `Square` stays a clause: `first_malformed` is public, and a type with it would ask more of a caller. Its twin is
+// `first_malformed_entry`: each is pinned by a definition of its own, and entries are read by a node and a destination.
 ghost use Rattle.std.specs.Prelude.{◌≡◌};
 ghost use Rattle.weights.specs.Languages.{places_of};
 ghost use Rattle.matrices.specs.Buffers.{matrix_check, Square};

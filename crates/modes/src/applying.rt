@@ -36,21 +36,8 @@ pub fn apply(p: Places, w: Weight, e: Entry) -> Entry
     requires { AtMost 2147483647 (weight_of w) × AtMost 2147483647 (weight_in (entry_of e)) }
     ensures { entry_of result ≡ applied (places_of p) (weight_of w) (entry_of e) }
 {
-    let Entry::Mapped {
-        first,
-        second,
-        third,
-        fourth,
-        t,
-    } = e
-    else {
+    let Entry::Mapped { t, .. } = e else {
         return Entry::Empty;
     };
-    let x = Weight::Route {
-        first,
-        second,
-        third,
-        fourth,
-    };
-    with_t(weights::joining::join(p, w, x), t)
+    with_t(weights::joining::join(p, w, e.weight()), t)
 }

@@ -44,39 +44,13 @@ fn better_route(p: Places, mode: Mode, x: Weight, t: u32, y: Weight, u: u32) -> 
 pub fn better(p: Places, mode: Mode, e: Entry, f: Entry) -> bool
     ensures { result ≡ better_entry (comparing mode (places_of p)) (entry_of e) (entry_of f) }
 {
-    let Entry::Mapped {
-        first: a,
-        second: b,
-        third: c,
-        fourth: d,
-        t,
-    } = e
-    else {
+    let Entry::Mapped { t, .. } = e else {
         return false;
     };
-    let Entry::Mapped {
-        first: v,
-        second: w,
-        third: x,
-        fourth: y,
-        t: u,
-    } = f
-    else {
+    let Entry::Mapped { t: u, .. } = f else {
         return true;
     };
-    let one = Weight::Route {
-        first: a,
-        second: b,
-        third: c,
-        fourth: d,
-    };
-    let other = Weight::Route {
-        first: v,
-        second: w,
-        third: x,
-        fourth: y,
-    };
-    better_route(p, mode, one, t, other, u)
+    better_route(p, mode, e.weight(), t, f.weight(), u)
 }
 
 // The better of two entries.

@@ -10,27 +10,6 @@ ghost use Rattle.modes.specs.Gains.{weight_in, sooner, loses_entry};
 use super::{Entry, Mode};
 use weights::{Places, Weight};
 
-fn weight_in(e: Entry) -> Weight
-    ensures { weight_of result ≡ weight_in (entry_of e) }
-{
-    let Entry::Mapped {
-        first,
-        second,
-        third,
-        fourth,
-        ..
-    } = e
-    else {
-        return Weight::NoRoute;
-    };
-    Weight::Route {
-        first,
-        second,
-        third,
-        fourth,
-    }
-}
-
 // Both are mapped, e with the smaller t.
 fn is_sooner(e: Entry, f: Entry) -> bool
     ensures { result ≡ sooner (entry_of e) (entry_of f) }
@@ -49,7 +28,7 @@ fn loses_first(p: Places, e: Entry, x: Weight, f: Entry) -> bool
     requires { AtMost 2147483647 (weight_of x) × AtMost 2147483647 (weight_in (entry_of f)) }
     ensures { result ≡ loses (places_of p) (weight_in (entry_of e)) (weight_of x) (weight_in (entry_of f)) }
 {
-    weights::gaining::loses(p, weight_in(e), x, weight_in(f))
+    weights::gaining::loses(p, e.weight(), x, f.weight())
 }
 
 // e stays beside x applied to f, whatever is left of the join: by the first value, in cold mode by the smaller t.

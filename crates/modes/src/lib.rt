@@ -6,6 +6,13 @@ pub mod choosing;
 pub mod comparing;
 pub mod gaining;
 
+ghost use Rattle.std.specs.Prelude.{◌≡◌};
+ghost use Rattle.weights.specs.Values.{weight_of};
+ghost use Rattle.modes.specs.Entries.{entry_of};
+ghost use Rattle.modes.specs.Gains.{weight_in};
+
+use weights::Weight;
+
 // The largest t of a mode other than plain.
 pub const LARGEST_T: u32 = 65535;
 
@@ -16,7 +23,8 @@ pub enum Mode {
     Cold,
 }
 
-// A table's entry: a route, with a value in each place, and an outside number t; or empty. An enum of its own, as a weight is.
+// A table's entry: a route, with a value in each place, and an outside number t; or empty. An Option of the former would name
+// two types where each match here names one.
 #[derive(Clone, Copy, Debug, PartialEq, Eq)]
 pub enum Entry {
     Mapped {
@@ -27,4 +35,27 @@ pub enum Entry {
         t: u32,
     },
     Empty,
+}
+
+impl Entry {
+    // The weight in an entry; in empty there is no route.
+    pub fn weight(self) -> Weight
+        ensures { weight_of result ≡ weight_in (entry_of self) }
+    {
+        match self {
+            Entry::Mapped {
+                first,
+                second,
+                third,
+                fourth,
+                ..
+            } => Weight::Route {
+                first,
+                second,
+                third,
+                fourth,
+            },
+            Entry::Empty => Weight::NoRoute,
+        }
+    }
 }

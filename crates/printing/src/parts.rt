@@ -1,5 +1,6 @@
 // The parts of the text: the laws, the routes, and the forwarding entries, each with the refusal that takes its place.
 // `Square`, `Sized` and the bounds stay clauses: the functions are public, and a type with them would ask more of a caller.
+// `Put` speaks of `out.old`, the place and `out.new`: a struct of the buffer and its end would have to keep all three. `Display` would give no place.
 ghost use Rattle.std.specs.Prelude.{◌++◌, ◌+◌, ◌*◌, ◌≤◌, length};
 ghost use Rattle.weights.specs.Sizes.{places};
 ghost use Rattle.matrices.specs.Buffers.{Square};
@@ -24,7 +25,8 @@ pub fn put_laws(l: Language, at: usize, out: &mut [u8]) -> usize
     }
 }
 
-// Puts the F lines of a table, or the refusal in their place; with m 0 there are none.
+// Puts the F lines of a table, or the refusal in their place; with m 0 there are none. A row of any three numbers is taken: a Result would
+// ask more of a caller.
 pub fn put_forward_part(
     l: Language,
     n: usize,

@@ -1,5 +1,6 @@
 // The whole: a problem file is read, its routes and its table are worked out, and its text is put.
-// The bounds stay clauses: `print_text` and `print_input` are public, and a type with them would ask more of a caller.
+// The bounds stay clauses: `print_text` and `print_input` are public, and a type with them would ask more of a caller;
+// a problem's numbers stay arguments, as those of `put_text`, which is public, are.
 ghost use Rattle.std.specs.Prelude.{◌≡◌, ◌*◌, ◌≤◌, ◌<◌, length, take};
 ghost use Rattle.weights.specs.Sizes.{places, weight_words, entry_words};
 ghost use Rattle.decimals.specs.Texts.{Put};

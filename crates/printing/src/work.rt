@@ -32,16 +32,6 @@ fn put_sweeps(n: usize, list: &mut [u32])
     }
 }
 
-// The row of an answer that gives no number.
-fn told(answer: Result<(), Refusal>) -> Told
-    ensures { result ≡ answer_told answer }
-{
-    match answer {
-        Ok(()) => Told::DONE,
-        Err(x) => Told::from(x),
-    }
-}
-
 // Sweeps all rows n-1 times from fresh, on a buffer r.
 fn sweep(network: &Network<'_>, r: &mut [u32]) -> Result<(), Refusal>
     requires { (0 < network.now.n) × (network.now.n ≤ 16) }
@@ -64,7 +54,7 @@ pub fn work_routes(network: &Network<'_>, r: &mut [u32]) -> Told
     ensures value { result ≡ routes_told network.now r.old }
     ensures r_after { r.new ≡ routes_left network.now r.old }
 {
-    told(sweep(network, r))
+    Told::from(sweep(network, r))
 }
 
 // Applies the routes to a mapping table, into a buffer f; returns what the call tells.
@@ -72,5 +62,5 @@ pub fn work_table(tables: &Tables<'_>, f: &mut [u32]) -> Told
     ensures value { result ≡ table_told tables.now f.old }
     ensures f_after { f.new ≡ table_left tables.now f.old }
 {
-    told(forward(tables, f))
+    Told::from(forward(tables, f))
 }

@@ -1,5 +1,6 @@
 // One record: two ends, a value for each component, and t in an attachment of modes 2 and 3. Its checks, in order: 1, 7, 8, 6.
-// The bounds on offsets and on a language's count stay clauses: `record_length` and `record_check` are public, and a type with them would ask more.
+// The bounds on offsets and on a language's count stay clauses: `record_length` and `record_check` are public, and a type with them would ask more;
+// so do the file, the head and the list, which a struct would only rename. The mode is the file's number.
 ghost use Rattle.std.specs.Prelude.{◌≡◌, ◌+◌, ◌≤◌, ltb};
 ghost use Rattle.refusals.specs.declared.Refusal.TheVariants.{NoSuch};
 ghost use Rattle.refusals.specs.Checks.{unless};

@@ -1,5 +1,6 @@
 // The two lists of records, each with its count, and nothing after them.
-// The bounds on offsets and on a language's count stay clauses: `list_end` and `body_check` are public, and a type with them would ask more.
+// The bounds on offsets and on a language's count stay clauses: `list_end` and `body_check` are public, and a type with them would ask more;
+// so do the file, the head and the list, which a struct would only rename.
 ghost use Rattle.std.specs.Prelude.{◌≡◌, ◌+◌, ◌≤◌};
 ghost use Rattle.weights.specs.Sizes.{places};
 ghost use Rattle.records.specs.Records.{records_check, record_list_check, list_end, body_check};
@@ -17,12 +18,11 @@ fn records_check(file: &[u8], h: Head, list: Listing, first: u32, count: u32) ->
     ensures { result ≡ records_check file.now h list first 0 count }
 {
     let size = record_length(list, h.mode, h.language.count);
-    let mut at = first;
-    let mut low: u32 = 0;
+    let mut low = 0;
     for e in 0..count {
+        let at = first + e * size;
         record_check(file, h, list, at, low)?;
         low = two(file, at) + 1;
-        at += size;
     }
     Ok(())
 }

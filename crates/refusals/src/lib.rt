@@ -22,7 +22,7 @@ pub enum Refusal {
     TooMany { which: u32, place: u32 },
 }
 
-// A refusal as 01 tells it; 0 0 0 is done.
+// A refusal as 01 tells it; 0 0 0 is done. Three numbers, as the C interface gives them.
 #[derive(Clone, Copy, Debug, PartialEq, Eq)]
 pub struct Told {
     pub number: u32,
@@ -62,6 +62,20 @@ impl From<Refusal> for Told {
             number,
             which,
             place,
+        }
+    }
+}
+
+// The row of a call that gives no number: done, or its refusal's.
+impl From<Result<(), Refusal>> for Told {
+    ghost use Rattle.refusals.specs.Checks.{answer_told};
+
+    ghost from_gives = { λ answer t. t ≡ answer_told answer };
+
+    fn from(answer: Result<(), Refusal>) -> Told {
+        match answer {
+            Ok(()) => Told::DONE,
+            Err(r) => Told::from(r),
         }
     }
 }

@@ -16,7 +16,7 @@ pub const MOST_STEPS: usize = 4096;
 pub const FIRST_SETTLE: u32 = 256;
 
 // What a number of a step list means.
-#[derive(Clone, Copy)]
+#[derive(Clone, Copy, Debug, PartialEq, Eq)]
 pub enum Step {
     Row(Node),
     Settle(Node),

@@ -1,5 +1,5 @@
 // The routing equation, row by row, with a way out at the first row that differs.
-// `Given`, the bounds and p, n, a, r stay clauses and arguments: `solves` is public, and a struct would lengthen each clause.
+// `Given`, the bounds and p, n, a, r stay clauses and arguments: `solves` is public, and with a struct no clause is plainer (docs/DESIGN-PASS.md).
 ghost use Rattle.std.specs.Prelude.{◌≡◌, ◌*◌, ◌≤◌, ◌<◌, length};
 ghost use Rattle.weights.specs.Sizes.{places, weight_words};
 ghost use Rattle.weights.specs.Languages.{places_of};

@@ -1,5 +1,5 @@
 // Row steps: row i worked out anew beside the matrix, and put in its place where every sum fits.
-// `Given`, the bounds and p, n, a, r stay clauses and arguments: `new_row` and `row_step` are public, and a struct would lengthen each clause.
+// `Given`, the bounds and p, n, a, r stay clauses and arguments: `new_row` and `row_step` are public, and with a struct no clause is plainer (docs/DESIGN-PASS.md).
 ghost use Rattle.std.specs.Prelude.{◌≡◌, ◌++◌, ◌*◌, ◌≤◌, ◌<◌, length, take, drop};
 ghost use Rattle.algebra.specs.Step.{routed};
 ghost use Rattle.weights.specs.Sizes.{places, weight_words};

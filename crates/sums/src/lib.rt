@@ -1,5 +1,5 @@
 // The forwarding sum: F(i,d) is the best over k of R(i,k) applied to M(k,d).
-// `GivenTable` and what it is about stay a clause and arguments: `forward_table` is public, and a struct would lengthen each clause.
+// `GivenTable` and what it is about stay a clause and arguments: `forward_table` is public, and with a struct no clause is plainer (docs/DESIGN-PASS.md).
 #![tactic(auto)]
 
 ghost use Rattle.std.specs.Prelude.{◌≡◌, ◌++◌, ◌*◌, ◌≤◌, ◌<◌, length, drop};

@@ -40,7 +40,8 @@ pub fn chosen_mode(chosen: Option<Mode>) -> Mode
     chosen.unwrap_or(Mode::Plain)
 }
 
-// 9: the words of a table; passed where n is over 16 or m over 32, since 3 is told before.
+// 9: the words of a table; passed where n is over 16 or m over 32, since 3 is told before. Its twin is `check_length`: each is pinned
+// by a definition of its own.
 pub fn check_table_length(which: u32, n: u32, m: u32, s: &[u32]) -> Result<(), Refusal>
     ensures { result ≡ table_length_measured which n m s.now }
 {

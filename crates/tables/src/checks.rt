@@ -1,5 +1,6 @@
 // Refusal 6: the first malformed entry of a table.
-// `Sized` stays a clause: `first_malformed_entry` is public, and a type with it would ask more of a caller.
+// `Sized` stays a clause: `first_malformed_entry` is public, and a type with it would ask more of a
+// caller. Its twin is `first_malformed`: each is pinned by a definition of its own, and entries are read by a node and a destination.
 ghost use Rattle.std.specs.Prelude.{◌≡◌};
 ghost use Rattle.weights.specs.Languages.{places_of};
 ghost use Rattle.tables.specs.Tables.{table_check, Sized};

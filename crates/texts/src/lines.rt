@@ -1,5 +1,6 @@
 // The lines: a word, its fields, and a line feed.
 // The room and the count stay clauses: the functions are public, and a type with them would ask more of a caller.
+// `Put` speaks of `out.old`, the place and `out.new`: a struct of the buffer and its end would have to keep all three. `Display` would give no place.
 ghost use Rattle.std.specs.Prelude.{[], ◌∷◌, ◌++◌, ◌+◌, ◌≤◌, length};
 ghost use Rattle.decimals.specs.Texts.{Put};
 ghost use Rattle.weights.specs.Values.{weight_of};

@@ -1,5 +1,6 @@
 // The fields of a line: numbers, each after a space, and the dash of what is missing.
 // The room and the count stay clauses: most functions are public, and a type with them would ask more of a caller.
+// `Put` speaks of `out.old`, the place and `out.new`: a struct of the buffer and its end would have to keep all three. `Display` would give no place.
 ghost use Rattle.std.specs.Prelude.{cond, [], ◌∷◌, ◌+◌, ◌≤◌, length, take};
 ghost use Rattle.decimals.specs.Texts.{Put};
 ghost use Rattle.weights.specs.Values.{weight_of};
@@ -11,7 +12,7 @@ use decimals::put_number;
 use modes::Entry;
 use weights::Weight;
 
-// The mode in which t is omitted.
+// The number of the mode in which t is omitted, as the file has it.
 const PLAIN: u32 = 1;
 
 // Puts a number after a space.

@@ -1,6 +1,7 @@
 // The lines of a matrix and of a forwarding table, by rows.
 // Four loops, and not one that is given what to put: what it asks of each call would be longer than the four.
 // `Square`, `Sized` and the bounds stay clauses: `put_routes` and `put_forwards` are public, and a type with them would ask more of a caller.
+// `Put` speaks of `out.old`, the place and `out.new`: a struct of the buffer and its end would have to keep all three. `Display` would give no place.
 ghost use Rattle.std.specs.Prelude.{◌+◌, ◌*◌, ◌≤◌, ◌<◌, length};
 ghost use Rattle.weights.specs.Sizes.{places};
 ghost use Rattle.matrices.specs.Buffers.{matrix_in, Square};

@@ -5,11 +5,10 @@ ghost use Rattle.guards.specs.OnNetwork.{on_network};
 ghost use Rattle.forwarding.specs.Calls.{on_tables, forward_left};
 ghost use Rattle.tronglephu.specs.Calls.{forward_reply, hop_reply, handover_reply};
 
-use door::languages::language;
+use super::network;
 use door::replies::{answered, done, refused};
 use door::{NEWER, NO_NODE, Reply, STANDING};
 use forwarding::Tables;
-use guards::network::Network;
 use handover::Lender;
 
 // Makes f the forwarding table.
@@ -27,11 +26,7 @@ pub extern "C" fn tronglephu_forward(
     ensures value { result ≡ forward_reply (on_tables (on_network (language_of numbers.now) n a.now) m mode r.now mapping.now) f.old }
     ensures f_after { f.new ≡ forward_left (on_tables (on_network (language_of numbers.now) n a.now) m mode r.now mapping.now) f.old }
 {
-    let network = Network {
-        language: language(numbers),
-        n,
-        arcs: a,
-    };
+    let network = network(numbers, n, a);
     let tables = Tables {
         network,
         m,
@@ -54,11 +49,7 @@ pub extern "C" fn tronglephu_next_hop(
 ) -> Reply
     ensures { result ≡ hop_reply (on_network (language_of numbers.now) n a.now) r.now i j }
 {
-    let network = Network {
-        language: language(numbers),
-        n,
-        arcs: a,
-    };
+    let network = network(numbers, n, a);
     match hops::next_hop::next_hop(&network, r, i, j) {
         Ok(Some(node)) => done(node.0 as u32),
         Ok(None) => done(NO_NODE),
@@ -78,11 +69,7 @@ pub extern "C" fn tronglephu_handover(
 ) -> Reply
     ensures { result ≡ handover_reply (on_network (language_of numbers.now) n a.now) standing.now newer.now i }
 {
-    let network = Network {
-        language: language(numbers),
-        n,
-        arcs: a,
-    };
+    let network = network(numbers, n, a);
     match handover::lending::lender(&network, standing, newer, i) {
         Ok(Lender::Newer) => done(NEWER),
         Ok(Lender::Standing) => done(STANDING),

@@ -5,10 +5,10 @@ ghost use Rattle.guards.specs.OnNetwork.{on_network};
 ghost use Rattle.routes.specs.Calls.{fresh_left, steps_left};
 ghost use Rattle.tronglephu.specs.Calls.{fresh_reply, steps_reply, equation_reply};
 
+use super::network;
 use door::Reply;
 use door::languages::language;
 use door::replies::{answered, done, refused};
-use guards::network::Network;
 
 // Makes r the fresh matrix.
 #[unsafe(no_mangle)]
@@ -31,11 +31,7 @@ pub extern "C" fn tronglephu_steps(
     ensures value { result ≡ steps_reply (on_network (language_of numbers.now) n a.now) r.old list.now }
     ensures r_after { r.new ≡ steps_left (on_network (language_of numbers.now) n a.now) r.old list.now }
 {
-    let network = Network {
-        language: language(numbers),
-        n,
-        arcs: a,
-    };
+    let network = network(numbers, n, a);
     match steps::steps(&network, r, list) {
         Ok(count) => done(count),
         Err(stopped) => refused(stopped.refusal, stopped.done),
@@ -47,11 +43,7 @@ pub extern "C" fn tronglephu_steps(
 pub extern "C" fn tronglephu_equation(numbers: &[u16], n: u32, a: &[u32], r: &[u32]) -> Reply
     ensures { result ≡ equation_reply (on_network (language_of numbers.now) n a.now) r.now }
 {
-    let network = Network {
-        language: language(numbers),
-        n,
-        arcs: a,
-    };
+    let network = network(numbers, n, a);
     match routes::equation::equation(&network, r) {
         Ok(yes) => done(yes as u32),
         Err(x) => refused(x, 0),

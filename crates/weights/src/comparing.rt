@@ -53,7 +53,7 @@ fn none_against(p: Places, y: Weight) -> Comparison
     }
 }
 
-// Better, equal or worse.
+// Better, equal or worse. Place by place: each component compares in its own way, which no derive can know.
 pub fn compare(p: Places, x: Weight, y: Weight) -> Comparison
     ensures { result ≡ compared (places_of p) (weight_of x) (weight_of y) }
 {

@@ -31,8 +31,8 @@ pub enum Component {
     Gain,
 }
 
-// A language: `count` components; the places after them are ignored.
-#[derive(Clone, Copy)]
+// A language: `count` components; the places after them are ignored. A count and four places, as the C interface gives them.
+#[derive(Clone, Copy, Debug, PartialEq, Eq)]
 pub struct Language {
     pub count: u32,
     pub first: Component,
@@ -68,8 +68,7 @@ impl Places {
     }
 }
 
-// A route has a value in each place. An enum of its own, and of plain numbers, as the paper asks: "each weight must show itself to be
-// a route".
+// A route has a value in each place. An enum of its own, of plain numbers: a weight shows itself to be a route, as 01 wants it.
 #[derive(Clone, Copy, Debug, PartialEq, Eq)]
 pub enum Weight {
     Route {
@@ -81,7 +80,7 @@ pub enum Weight {
     NoRoute,
 }
 
-// Not an Ordering: of two widths the greater is the better.
+// Not an Ordering, which is no plainer: `Better` would be its `Less`, also where the greater value is better.
 #[derive(Clone, Copy, Debug, PartialEq, Eq)]
 pub enum Comparison {
     Better,

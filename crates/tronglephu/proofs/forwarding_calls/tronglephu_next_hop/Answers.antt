@@ -1,7 +1,6 @@
 use Rattle.std.proofs.Common.{arith}
-use Rattle.guards.specs.OnNetwork.{on_network}
 use Rattle.tronglephu.proofs.Answers.{hop_small}
 use Rattle.tronglephu.proofs.forwarding_calls.tronglephu_next_hop.Goals as goal
 
 pub overflow_cast-node : goal.overflow_cast-node
-overflow_cast-node c = let a = c.args in omega (arith, hop_small (on_network c.language.result a.n a.a.now) a.r.now a.i a.j c.in-Ok-Some.node (rw c.in-Ok-Some.field-0-is at c.in-Ok-Some.ensures))
+overflow_cast-node c = let a = c.args in omega (arith, hop_small c.network-network.result a.r.now a.i a.j c.in-Ok-Some.node (rw c.in-Ok-Some.field-0-is at c.in-Ok-Some.ensures))
