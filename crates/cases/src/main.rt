@@ -23,6 +23,7 @@ use std::io::Read;
 // Puts the answer of one request, where it has one.
 fn answer(words: &[u32], response: &mut Frame) -> Result<(), Unanswered> {
     let request = Request::read(words)?;
+    // The numbers are the protocol's, which the independent implementation sends.
     match request.call {
         1 => report::laws_call(&request, response),
         2 => routing::fresh_call(&request, response),
