@@ -11,13 +11,7 @@ const UNREAD: Problem = Problem {
     n: 0,
     m: 0,
     mode: 0,
-    language: Language {
-        count: 0,
-        first: Component::Dist,
-        second: Component::Dist,
-        third: Component::Dist,
-        fourth: Component::Dist,
-    },
+    language: Language::NONE,
 };
 
 // The bytes of a file that has one in each word, its lowest, at the start of the room for them.
@@ -33,7 +27,7 @@ pub fn to_bytes<'b>(words: &[u32], room: &'b mut [u8]) -> Result<&'b [u8], Unans
     Ok(bytes)
 }
 
-// Puts kind and limit, 0 where the kind has none.
+// Puts kind and limit, 0 where the kind has none, in the numbers of the protocol.
 fn put_component(response: &mut Frame, c: Component) {
     let words = match c {
         Component::Dist => [1, 0],

@@ -5,6 +5,11 @@ use exchange::requests::{Buffers, Request, Unanswered};
 use handover::{Lender, lending};
 use refusals::Told;
 
+// Where call 8's buffers stand among handover's, as in the header.
+const NEWER_PLACE: u32 = 2;
+
+const STANDING_PLACE: u32 = 5;
+
 // How many words are lent, or 65,535 where they are more than a matrix has room for.
 fn length(part: &[u32]) -> u32 {
     let size = part.len();
@@ -36,8 +41,8 @@ pub fn which_call(request: &Request<'_>, response: &mut Frame) -> Result<(), Una
     } = request.buffers(3)?;
     let network = network(request, a);
     let lender = match lending::lender(&network, standing, newer, request.from) {
-        Ok(Lender::Newer) => 2,
-        Ok(Lender::Standing) => 5,
+        Ok(Lender::Newer) => NEWER_PLACE,
+        Ok(Lender::Standing) => STANDING_PLACE,
         Err(_) => 0,
     };
     let answer = lending::which_refusal(&network, standing, newer, request.from);

@@ -32,13 +32,7 @@ pub fn language(numbers: &[u16]) -> Language
     ensures { result ≡ language_of numbers.now }
 {
     if numbers.len() != LANGUAGE_NUMBERS {
-        return Language {
-            count: 0,
-            first: Component::Dist,
-            second: Component::Dist,
-            third: Component::Dist,
-            fourth: Component::Dist,
-        };
+        return Language::NONE;
     }
     Language {
         count: numbers[0] as u32,

@@ -31,7 +31,8 @@ pub fn done(value: u32) -> Reply
     reply(Told::DONE, value)
 }
 
-// A refusal, with the one number that the call gives.
+// A refusal, with the one number that the call gives. Each call has its arm for it: one function of a Result
+// would want the call's number made by a closure first.
 pub fn refused(r: Refusal, value: u32) -> Reply
     ensures { result ≡ reply_of (table.told r) value }
 {

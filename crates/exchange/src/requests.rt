@@ -1,11 +1,11 @@
 // The parts of a request: its numbers, its language, its buffers.
 ghost use Rattle.std.specs.Prelude.{◌≡◌, ◌++◌, drop, IfOk};
-ghost use Rattle.exchange.specs.Components.{component_of};
+ghost use Rattle.exchange.specs.Components.{component_of, language_of};
 
 use weights::{Component, Language};
 
-// The numbers of a request: the call, nine of the language, n, m, mode, i and j.
-const NUMBERS: usize = 15;
+// A language's numbers: the count, then kind and limit for each of four places.
+const LANGUAGE_NUMBERS: usize = 9;
 
 // Why a request is not answered as its call would.
 #[derive(Clone, Copy, Debug, PartialEq, Eq)]
@@ -39,6 +39,7 @@ pub struct Buffers<'w> {
 }
 
 // Limits are 16-bit numbers. A larger one, and an unknown kind, become width 0, which every call refuses 4 at its place.
+// The kinds are the numbers of the protocol.
 pub fn component(kind: u32, value: u32) -> Component
     ensures { result ≡ component_of kind value }
 {
@@ -54,13 +55,16 @@ pub fn component(kind: u32, value: u32) -> Component
     }
 }
 
-fn language(numbers: &[u32; NUMBERS]) -> Language {
+// The language in nine numbers.
+pub fn language(numbers: &[u32; LANGUAGE_NUMBERS]) -> Language
+    ensures { result ≡ language_of numbers.now }
+{
     Language {
-        count: numbers[1],
-        first: component(numbers[2], numbers[3]),
-        second: component(numbers[4], numbers[5]),
-        third: component(numbers[6], numbers[7]),
-        fourth: component(numbers[8], numbers[9]),
+        count: numbers[0],
+        first: component(numbers[1], numbers[2]),
+        second: component(numbers[3], numbers[4]),
+        third: component(numbers[5], numbers[6]),
+        fourth: component(numbers[7], numbers[8]),
     }
 }
 
@@ -79,16 +83,19 @@ fn length(lengths: &[u32], which: usize) -> usize {
 
 impl<'w> Request<'w> {
     pub fn read(words: &'w [u32]) -> Result<Self, Unanswered> {
-        let parts = words.split_first_chunk::<NUMBERS>();
-        let (numbers, after) = parts.ok_or(Unanswered::NoRequest)?;
+        let (call, rest) = words.split_first().ok_or(Unanswered::NoRequest)?;
+        let (nine, rest) = rest.split_first_chunk().ok_or(Unanswered::NoRequest)?;
+        let ([n, m, mode, from, to], after) = rest
+            .split_first_chunk::<5>()
+            .ok_or(Unanswered::NoRequest)?;
         Ok(Request {
-            call: numbers[0],
-            language: language(numbers),
-            n: numbers[10],
-            m: numbers[11],
-            mode: numbers[12],
-            from: numbers[13],
-            to: numbers[14],
+            call: *call,
+            language: language(nine),
+            n: *n,
+            m: *m,
+            mode: *mode,
+            from: *from,
+            to: *to,
             after,
         })
     }

@@ -8,7 +8,7 @@ use super::languages::language;
 use super::{Found, Head, SoundHead, Taken};
 use file_bytes::byte;
 use refusals::Refusal;
-use weights::{Component, Language};
+use weights::Language;
 
 // A field of one byte: it is there, and lies in lo..hi.
 #[tactic(auto, unfolding(crate::specs::Header::field_check))]
@@ -55,14 +55,10 @@ fn fields_check(file: &[u8]) -> Result<(), Refusal>
 fn nothing() -> Found
     ensures { result ≡ nothing }
 {
-    let language = Language {
-        count: 0,
-        first: Component::Dist,
-        second: Component::Dist,
-        third: Component::Dist,
-        fourth: Component::Dist,
-    };
-    Found { tags: 0, language }
+    Found {
+        tags: 0,
+        language: Language::NONE,
+    }
 }
 
 // Version, n, m, mode and the language; not the count of bytes before them.

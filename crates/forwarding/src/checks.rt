@@ -1,5 +1,6 @@
 // What forwarding checks after the entrance, in 01's order: 10 for law C, 6, 12.
-// `Measured` stays a clause, and what it is about arguments: `check_contents` is public, and a type with it would ask more of a caller.
+// `Measured` stays a clause, and what it is about arguments: `check_contents` is public, and a type with it would ask more of a caller;
+// with a struct of the arguments no clause is plainer (docs/DESIGN-PASS.md).
 ghost use Rattle.std.specs.Prelude.{◌≡◌};
 ghost use Rattle.weights.specs.Languages.{places_of};
 ghost use Rattle.matrices.specs.Steps.{Given};

@@ -1,4 +1,5 @@
 // The calls of a handover: which matrix lends, the row that is lent, and why none is.
+// `Square` stays a clause: with a type of it no clause is plainer (docs/DESIGN-PASS.md).
 ghost use Rattle.std.specs.Prelude.{◌≡◌, ◌<◌};
 ghost use Rattle.refusals.specs.Checks.{answer_told};
 ghost use Rattle.matrices.specs.Buffers.{Square};

@@ -34,7 +34,7 @@ mod tests {
     use std::io::{ErrorKind, Read};
     use std::test::Fail;
 
-    // Gives byte 7 so many times, one to a read, and then ends or fails.
+    // Gives byte 7 so many times, one to a read, and then ends or, where `fails`, fails; an io::Error can't be copied into it.
     #[derive(Drop)]
     struct Dripping {
         left: usize,

@@ -2,13 +2,13 @@
 // A language is nine numbers: the count, then kind (1 dist, 2 width, 3 class, 4 gain) and limit for each of four places.
 #![tactic(auto)]
 
-use exchange::requests::component;
+use exchange::requests::language;
 use laws::{Law, LawReport, Witness};
 use refusals::{Refusal, Told};
 use std::io;
 use weights::{Language, PerPlace};
 
-// A line, as far as it is read: the number that is being read, if one is, and those before it.
+// A line, as far as it is read: the number that is being read, if one is, and those before it. A line has room for nine: no heap.
 #[derive(Clone, Copy, Default)]
 struct Line {
     number: Option<u32>,
@@ -35,16 +35,6 @@ impl Line {
                 self.read += 1;
             }
         }
-    }
-}
-
-fn language(numbers: [u32; 9]) -> Language {
-    Language {
-        count: numbers[0],
-        first: component(numbers[1], numbers[2]),
-        second: component(numbers[3], numbers[4]),
-        third: component(numbers[5], numbers[6]),
-        fourth: component(numbers[7], numbers[8]),
     }
 }
 
@@ -86,7 +76,7 @@ fn print_report(rt: &impl Print, l: Language) -> io::Result<()> {
 fn end_line(rt: &impl Print, line: &mut Line) -> io::Result<()> {
     line.end_number();
     if 0 < line.read {
-        print_report(rt, language(line.numbers))?;
+        print_report(rt, language(&line.numbers))?;
     }
     *line = Line::default();
     Ok(())

@@ -10,7 +10,7 @@ use super::Entry;
 use weights::{Places, Weight};
 
 // The entry of a weight and t; no route gives empty.
-fn with_t(w: Weight, t: u32) -> Entry
+pub fn with_t(w: Weight, t: u32) -> Entry
     ensures { entry_of result ≡ with_t (weight_of w) t }
 {
     let Weight::Route {

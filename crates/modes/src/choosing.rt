@@ -6,7 +6,7 @@ ghost use Rattle.modes.specs.Entries.{largest_t, mode_for, needs_c};
 use super::{LARGEST_T, Mode};
 use weights::Language;
 
-// The mode of a number, where it fits the language and m destinations.
+// The mode of a number, where it fits the language and m destinations. The number is the file's and the C interface's.
 pub fn mode_for(l: Language, m: usize, number: u32) -> Option<Mode>
     ensures { result ≡ mode_for (components_of l) m number }
 {

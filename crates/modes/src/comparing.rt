@@ -1,4 +1,5 @@
-// Comparing entries by mode: plain by weight, hot by weight then smaller t, cold by smaller t then weight; empty is worst.
+// Comparing entries by mode: plain by weight, hot by weight then smaller t, cold by smaller t then weight; empty is worst. Written out: no
+// derive knows the mode. A weight and its t stay arguments, as the definitions have them.
 ghost use Rattle.std.specs.Prelude.{◌≡◌, ltb};
 ghost use Rattle.algebra.specs.Order.{pick};
 ghost use Rattle.weights.specs.Languages.{places_of};

@@ -1,5 +1,6 @@
 // The parts of the text: the laws, the routes, and the forwarding entries, each with the refusal that takes its place.
 // `Square`, `Sized` and the bounds stay clauses: the functions are public, and a type with them would ask more of a caller.
+// n, m, mode and the language stay arguments: with a struct no clause is plainer (docs/DESIGN-PASS.md).
 // `Put` speaks of `out.old`, the place and `out.new`: a struct of the buffer and its end would have to keep all three. `Display` would give no place.
 ghost use Rattle.std.specs.Prelude.{◌++◌, ◌+◌, ◌*◌, ◌≤◌, length};
 ghost use Rattle.weights.specs.Sizes.{places};

@@ -1,6 +1,7 @@
 // The whole: a problem file is read, its routes and its table are worked out, and its text is put.
 // The bounds stay clauses: `print_text` and `print_input` are public, and a type with them would ask more of a caller;
-// a problem's numbers stay arguments, as those of `put_text`, which is public, are.
+// a problem's numbers stay arguments, as those of `put_text`, which is public, are:
+// with a struct no clause is plainer (docs/DESIGN-PASS.md).
 ghost use Rattle.std.specs.Prelude.{◌≡◌, ◌*◌, ◌≤◌, ◌<◌, length, take};
 ghost use Rattle.weights.specs.Sizes.{places, weight_words, entry_words};
 ghost use Rattle.decimals.specs.Texts.{Put};
@@ -101,6 +102,7 @@ pub fn print_text(file: &[u8], out: &mut [u8]) -> usize
 }
 
 // Puts the text of what a program has read: up to 65,536 bytes, and whether the input has more.
+// `more` stays an argument: the function is public, and the two are what a reader of an input has.
 pub fn print_input(file: &[u8], more: bool, out: &mut [u8]) -> usize
     requires { 65536 ≤ length out.old }
     ensures { Put 57976 out.old 0 (printed_input more file.now) out.new result }

@@ -1,5 +1,6 @@
 // The call that runs a list of steps, row steps and settles. It takes every input.
-// `Given` and p, n, a, r stay a clause and arguments, as those of `row_step` and `settle`, which are public, are.
+// `Given` and p, n, a, r stay a clause and arguments, as those of `row_step` and `settle`, which are public, are:
+// with a struct no clause is plainer (docs/DESIGN-PASS.md).
 #![tactic(auto)]
 
 ghost use Rattle.std.specs.Prelude.{◌≡◌, true, [], ◌∷◌, map, ◌≤◌, length};
@@ -41,8 +42,8 @@ fn check_list(n: usize, list: &[u32]) -> Result<(), Refusal>
     if MOST_STEPS < list.len() {
         return Err(Refusal::TooMany { which: 0, place: 0 });
     }
-    for k in 0..list.len() {
-        if !is_step(n, list[k]) {
+    for (k, x) in list.iter().enumerate() {
+        if !is_step(n, *x) {
             let place = k as u32;
             return Err(Refusal::NoSuch { which: 0, place });
         }
@@ -71,8 +72,8 @@ fn run(p: Places, n: usize, a: &[u32], r: &mut [u32], list: &[u32]) -> u32
     ensures value { result ≡ run_done (places_of p) n a.now r.old (map step_of list.now) }
     ensures r_after { r.new ≡ run_left (places_of p) n a.now r.old (map step_of list.now) }
 {
-    for done in 0..list.len() {
-        if !one_step(p, n, a, r, list[done]) {
+    for (done, x) in list.iter().enumerate() {
+        if !one_step(p, n, a, r, *x) {
             return done as u32;
         }
     }

@@ -9,7 +9,7 @@ ghost use Rattle.modes.specs.Entries.{entry_of};
 ghost use Rattle.tables.specs.Tables.{words_of, reading_entry, entry_read_of, entry_at, table_place, table_in};
 ghost use Rattle.tables.specs.Parts.{InTable, route_read};
 
-use modes::{Entry, Mode, choosing};
+use modes::{Entry, Mode, applying, choosing};
 use numbers::{Destination, Node};
 use weights::{ENTRY_WORDS, ONES, Places, WEIGHT_WORDS, Weight};
 
@@ -27,6 +27,7 @@ pub fn look_up(s: &[u32], m: usize, node: Node, destination: Destination) -> Ent
     ensures { entry_of result ≡ table_in places m s.now node.0 destination.0 }
 {
     let at = place(m, node, destination);
+    // All five before the test, as in `words::weight_at`.
     let first = s[at];
     let second = s[at + 1];
     let third = s[at + 2];
@@ -49,18 +50,7 @@ fn read_with(mode: Mode, w: Weight, t: u32) -> Option<Entry>
     ensures { entry_read_of result ≡ route_read mode (weight_of w) t }
 {
     match w {
-        Weight::Route {
-            first,
-            second,
-            third,
-            fourth,
-        } if t <= choosing::largest_t(mode) => Some(Entry::Mapped {
-            first,
-            second,
-            third,
-            fourth,
-            t,
-        }),
+        Weight::Route { .. } if t <= choosing::largest_t(mode) => Some(applying::with_t(w, t)),
         Weight::NoRoute if t == ONES => Some(Entry::Empty),
         _ => None,
     }
@@ -89,23 +79,10 @@ pub fn write_at(s: &mut [u32], at: usize, e: Entry)
     requires { at + entry_words ≤ length s.old }
     ensures { s.new ≡ sets s.old at (words_of (entry_of e)) }
 {
-    let Entry::Mapped {
-        first,
-        second,
-        third,
-        fourth,
-        t,
-    } = e
-    else {
+    let Entry::Mapped { t, .. } = e else {
         s[at..at + ENTRY_WORDS].fill(ONES);
         return;
     };
-    let w = Weight::Route {
-        first,
-        second,
-        third,
-        fourth,
-    };
-    words::write_at(s, at, w);
+    words::write_at(s, at, e.weight());
     s[at + WEIGHT_WORDS] = t;
 }

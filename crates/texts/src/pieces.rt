@@ -33,7 +33,7 @@ fn put_missing(at: usize, out: &mut [u8]) -> usize
     at + 2
 }
 
-// Puts the first `count` of four values.
+// Puts the first `count` of four values. They stay four: a weight and an entry have them apart.
 fn put_values(
     count: u32,
     first: u32,

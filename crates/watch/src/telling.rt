@@ -15,6 +15,7 @@ fn is_changed(old: &Matrix, new: &Matrix, from: Node, to: Node) -> bool {
 
 // ---- rows that changed
 
+// The loop prints, which can fail: so it tells by a flag whether it printed.
 pub fn changed_rows(rt: &impl Print, old: &Matrix, new: &Matrix) -> io::Result<()> {
     print!(rt; "\n  rows changed:         ")?;
     let mut none = true;

@@ -1,4 +1,5 @@
-// Comparing: component by component, the first difference deciding; no route is worst.
+// Comparing: component by component, the first difference deciding; no route is worst. A language and two weights stay arguments: with a
+// struct no clause is plainer (docs/DESIGN-PASS.md).
 ghost use Rattle.std.specs.Prelude.{◌≡◌, cond, false};
 ghost use Rattle.weights.specs.declared.Comparison.TheVariants.{Better, Worse};
 ghost use Rattle.weights.specs.Weights.{none, better_value, better, better_of};

@@ -31,7 +31,8 @@ pub enum Component {
     Gain,
 }
 
-// A language: `count` components; the places after them are ignored. A count and four places, as the C interface gives them.
+// A language: `count` components; the places after them are ignored. Not a count and `Places`, which are padded: here the later places may
+// hold anything, and no clause is to take the one for the other.
 #[derive(Clone, Copy, Debug, PartialEq, Eq)]
 pub struct Language {
     pub count: u32,
@@ -39,6 +40,17 @@ pub struct Language {
     pub second: Component,
     pub third: Component,
     pub fourth: Component,
+}
+
+impl Language {
+    // A language of no components, each place dist.
+    pub const NONE: Language = Language {
+        count: 0,
+        first: Component::Dist,
+        second: Component::Dist,
+        third: Component::Dist,
+        fourth: Component::Dist,
+    };
 }
 
 // One thing for each place of a language.

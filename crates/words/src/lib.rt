@@ -6,10 +6,11 @@ ghost use Rattle.std.specs.Prelude.{◌≡◌, ◌∷◌, [], ◌+◌, ◌≤◌
 ghost use Rattle.std.proofs.lemmas.List.Edits.{sets};
 ghost use Rattle.weights.specs.Sizes.{places, weight_words, ones};
 ghost use Rattle.weights.specs.Languages.{places_of};
+ghost use Rattle.weights.specs.PerPlace.{list_of};
 ghost use Rattle.weights.specs.Values.{weight_of};
 ghost use Rattle.weights.specs.Words.{words, all_are, in_range, fits, reading, read_of, decoded};
 
-use weights::{Component, ONES, Places, WEIGHT_WORDS, Weight};
+use weights::{Component, ONES, PerPlace, Places, WEIGHT_WORDS, Weight};
 
 pub fn in_range(c: Component, cap: u32, v: u32) -> bool
     ensures { result ≡ in_range cap c v }
@@ -28,30 +29,36 @@ pub fn all_ones(s: &[u32]) -> bool
     s.iter().all(|word| *word == ONES)
 }
 
-fn all_in_range(p: Places, cap: u32, a: u32, b: u32, c: u32, d: u32) -> bool
-    ensures { result ≡ fits cap (places_of p) (a ∷ b ∷ c ∷ d ∷ []) }
+fn all_in_range(p: Places, cap: u32, w: PerPlace<u32>) -> bool
+    ensures { result ≡ fits cap (places_of p) (list_of w) }
 {
-    in_range(p.first, cap, a)
-        && in_range(p.second, cap, b)
-        && in_range(p.third, cap, c)
-        && in_range(p.fourth, cap, d)
+    in_range(p.first, cap, w.first)
+        && in_range(p.second, cap, w.second)
+        && in_range(p.third, cap, w.third)
+        && in_range(p.fourth, cap, w.fourth)
 }
 
-fn read_words(p: Places, cap: u32, a: u32, b: u32, c: u32, d: u32) -> Option<Weight>
-    ensures { read_of result ≡ reading cap (places_of p) (a ∷ b ∷ c ∷ d ∷ []) }
+fn read_words(p: Places, cap: u32, w: PerPlace<u32>) -> Option<Weight>
+    ensures { read_of result ≡ reading cap (places_of p) (list_of w) }
 {
-    if all_ones(&[a, b, c, d]) {
-        return Some(Weight::NoRoute);
+    let PerPlace {
+        first,
+        second,
+        third,
+        fourth,
+    } = w;
+    if all_ones(&[first, second, third, fourth]) {
+        Some(Weight::NoRoute)
+    } else if all_in_range(p, cap, w) {
+        Some(Weight::Route {
+            first,
+            second,
+            third,
+            fourth,
+        })
+    } else {
+        None
     }
-    if all_in_range(p, cap, a, b, c, d) {
-        return Some(Weight::Route {
-            first: a,
-            second: b,
-            third: c,
-            fourth: d,
-        });
-    }
-    None
 }
 
 // The weight that the words from `at` on stand for, a sum being at most cap; none where they are malformed.
@@ -59,11 +66,13 @@ pub fn read_at(p: Places, cap: u32, s: &[u32], at: usize) -> Option<Weight>
     requires { at + weight_words ≤ length s.now }
     ensures { read_of result ≡ reading cap (places_of p) (take weight_words (drop at s.now)) }
 {
-    let a = s[at];
-    let b = s[at + 1];
-    let c = s[at + 2];
-    let d = s[at + 3];
-    read_words(p, cap, a, b, c, d)
+    let w = PerPlace {
+        first: s[at],
+        second: s[at + 1],
+        third: s[at + 2],
+        fourth: s[at + 3],
+    };
+    read_words(p, cap, w)
 }
 
 // The weight at a place of a buffer that has passed its check.

@@ -11,4 +11,4 @@ returns-in_default c = rw c.in_default.is (filled_is _ _ _ _ 5 _ (c.fill.ensures
 
 pub returns : goal.returns
 unfolding words words_of
-returns c = rw (c.in-Mapped.is, c.write_at.ensures) (simp towards_suc)
+returns c = rw (c.write_at.ensures, c.weight.ensures, c.in-Mapped.is) (simp towards_suc)
