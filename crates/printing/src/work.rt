@@ -32,7 +32,7 @@ fn put_sweeps(n: usize, list: &mut [u32])
     }
 }
 
-// Sweeps all rows n-1 times from fresh, on a buffer r.
+// Sweeps all rows n-1 times from fresh, on a buffer r. A match at the end: map_err was tried, and its goals stayed open.
 fn sweep(network: &Network<'_>, r: &mut [u32]) -> Result<(), Refusal>
     requires { (0 < network.now.n) × (network.now.n ≤ 16) }
     ensures value { answer_told result ≡ routes_told network.now r.old }
