@@ -1,3 +1,4 @@
+pub mod Overlays
 pub mod Reporting
 pub mod Exact
 pub mod Worked
