@@ -1,6 +1,7 @@
--- Words stored one part after another, and at the front of a buffer.
+-- Words stored one part after another, and at the front of a buffer; the words and the number of a law report.
 use Prim.Native.Nat.{ℕ, suc, ◌+◌, ◌≤◌}
 use mathlib.Core.Path.{◌≡◌, refl, ap, ◌∙◌}
+use mathlib.Core.Bool.{Bool}
 use mathlib.Core.List.{List, [], ◌∷◌, ◌++◌}
 use native.Mathlib.Omega.{arith}
 use lib.ListN.{length, drop, length-append}
@@ -9,12 +10,13 @@ use Rattle.weights.specs.declared.Component.{Component}
 use Rattle.weights.specs.declared.Component.TheVariants.{Dist, Width, Class, Gain}
 use Rattle.weights.specs.declared.Language.{Language}
 use Rattle.laws.specs.declared.Law.{Law}
-use Rattle.laws.specs.declared.Law.TheVariants.{Held, BrokenBy}
-use Rattle.laws.specs.declared.LawReport.{LawReport}
+use Rattle.laws.specs.declared.Law.TheVariants.{BrokenBy}
+use Rattle.laws.specs.declared.Witness.{Witness}
+use Rattle.weights.specs.PerPlace.{list_of}
 use Rattle.laws.specs.Report.{law_of}
 use Rattle.door.specs.Languages.{place_numbers}
 use Rattle.door.specs.Problems.{problem_words, problem_of}
-use Rattle.door.specs.Reports.{report_words, law_words, laws_words}
+use Rattle.door.specs.Reports.{report_words, law_words, laws_words, held_number, held_laws}
 
 -- two parts, the second stored after the first, are one part
 pub sets_after : (vs ws l : List ℕ) (i j : ℕ) → j ≡ i + length vs → sets (sets l i vs) j ws ≡ sets l i (vs ++ ws)
@@ -65,19 +67,43 @@ problem_stored s n m mode l h e₁ e₂ e₃ e₄ e₅ e₆ =
     front s (front₅ ++ place_numbers l.fourth) problem_words d₆ long₆ h
 
 -- a law has twelve words
-law_long : (w : Law) → length (law_words (law_of w)) ≡ 12
-law_long Held = refl
-law_long (BrokenBy w) = refl
+law_long : (w : Witness) → length (law_words (law_of (BrokenBy w))) ≡ 12
+law_long w = refl
 
 -- the words of a report, stored law by law
-pub laws_stored : (s : List ℕ) {s₁ s₂ s₃ : List ℕ} (r : LawReport) → report_words ≤ length s
-    → s₁ ≡ sets s 0 (law_words (law_of r.d)) → s₂ ≡ sets s₁ 12 (law_words (law_of r.u)) → s₃ ≡ sets s₂ 24 (law_words (law_of r.c))
-    → s₃ ≡ laws_words (law_of r.d) (law_of r.u) (law_of r.c) ++ drop report_words s
-laws_stored s r h e₁ e₂ e₃ =
-    let d = law_words (law_of r.d) in
-    let u = law_words (law_of r.u) in
-    let c = law_words (law_of r.c) in
-    let a = law_long r.d in
-    let long₂ : length (d ++ u) ≡ 24 = length-append d u ∙ (let b = law_long r.u in omega arith) in
-    let long₃ : length (d ++ u ++ c) ≡ report_words = length-append (d ++ u) c ∙ (let b = law_long r.c in omega arith) in
+pub laws_stored : (s : List ℕ) {s₁ s₂ s₃ : List ℕ} (x y z : Witness) → report_words ≤ length s
+    → s₁ ≡ sets s 0 (law_words (law_of (BrokenBy x))) → s₂ ≡ sets s₁ 12 (law_words (law_of (BrokenBy y))) → s₃ ≡ sets s₂ 24 (law_words (law_of (BrokenBy z)))
+    → s₃ ≡ laws_words (law_of (BrokenBy x)) (law_of (BrokenBy y)) (law_of (BrokenBy z)) ++ drop report_words s
+laws_stored s x y z h e₁ e₂ e₃ =
+    let d = law_words (law_of (BrokenBy x)) in
+    let u = law_words (law_of (BrokenBy y)) in
+    let c = law_words (law_of (BrokenBy z)) in
+    let a = law_long x in
+    let long₂ : length (d ++ u) ≡ 24 = length-append d u ∙ (let b = law_long y in omega arith) in
+    let long₃ : length (d ++ u ++ c) ≡ report_words = length-append (d ++ u) c ∙ (let b = law_long z in omega arith) in
     front s (d ++ u ++ c) report_words (after s 0 24 (d ++ u) c (after s 0 12 d u e₁ e₂ (omega arith)) e₃ (omega arith)) long₃ h
+
+-- a law's words are those that break it, zeros where it is held
+pub words_of_law : (law : Law) (w : Witness) → list_of w.s ≡ (law_of law).s → list_of w.x ≡ (law_of law).x → list_of w.y ≡ (law_of law).y
+    → law_words (law_of (BrokenBy w)) ≡ law_words (law_of law)
+words_of_law law w s x y =
+    ap (λ (l : List ℕ). l ++ list_of w.x ++ list_of w.y) s
+    ∙ ap (λ (l : List ℕ). (law_of law).s ++ l ++ list_of w.y) x
+    ∙ ap (λ (l : List ℕ). (law_of law).s ++ (law_of law).x ++ l) y
+
+-- the same for the words of a report
+pub words_of_laws : (d u c : Law) (x y z : Witness)
+    → law_words (law_of (BrokenBy x)) ≡ law_words (law_of d) → law_words (law_of (BrokenBy y)) ≡ law_words (law_of u) → law_words (law_of (BrokenBy z)) ≡ law_words (law_of c)
+    → laws_words (law_of (BrokenBy x)) (law_of (BrokenBy y)) (law_of (BrokenBy z)) ≡ laws_words (law_of d) (law_of u) (law_of c)
+words_of_laws d u c x y z e₁ e₂ e₃ =
+    ap (λ (l : List ℕ). l ++ law_words (law_of (BrokenBy y)) ++ law_words (law_of (BrokenBy z))) e₁
+    ∙ ap (λ (l : List ℕ). law_words (law_of d) ++ l ++ law_words (law_of (BrokenBy z))) e₂
+    ∙ ap (λ (l : List ℕ). law_words (law_of d) ++ law_words (law_of u) ++ l) e₃
+
+-- and for the number of the laws that are held
+pub held_of_laws : (d u c : Law) (x y z : Bool) → x ≡ (law_of d).held → y ≡ (law_of u).held → z ≡ (law_of c).held
+    → held_number x y z ≡ held_laws (law_of d) (law_of u) (law_of c)
+held_of_laws d u c x y z e₁ e₂ e₃ =
+    ap (λ (b : Bool). held_number b y z) e₁
+    ∙ ap (λ (b : Bool). held_number (law_of d).held b z) e₂
+    ∙ ap (λ (b : Bool). held_number (law_of d).held (law_of u).held b) e₃

@@ -2,11 +2,12 @@
 ghost use Rattle.std.specs.Prelude.{◌≡◌, cond, ◌++◌, ◌+◌, ◌≤◌, length, drop};
 ghost use Rattle.std.proofs.lemmas.List.Edits.{sets};
 ghost use Rattle.weights.specs.PerPlace.{list_of};
+ghost use Rattle.laws.specs.declared.Law.TheVariants.{BrokenBy};
 ghost use Rattle.laws.specs.Report.{law_of};
-ghost use Rattle.door.specs.Reports.{law_words, laws_words, report_words, held_laws};
+ghost use Rattle.door.specs.Reports.{law_words, laws_words, report_words, held_number};
 
 use super::storing::put_pair;
-use laws::{Law, LawReport, Witness};
+use laws::Witness;
 use weights::PerPlace;
 
 // Writes four words from `at` on.
@@ -18,37 +19,36 @@ fn put_words(s: &mut [u32], at: usize, w: PerPlace<u32>)
     put_pair(s, at + 2, w.third, w.fourth);
 }
 
-// Writes s, x and y of a law from `at` on.
-fn put_law(report: &mut [u32], at: usize, law: Law)
+// Writes s, x and y from `at` on.
+fn put_law(report: &mut [u32], at: usize, law: Witness)
     requires { at + 12 ≤ length report.old }
-    ensures { report.new ≡ sets report.old at (law_words (law_of law)) }
+    ensures { report.new ≡ sets report.old at (law_words (law_of (BrokenBy law))) }
 {
-    let Witness { s, x, y } = law.witness();
-    put_words(report, at, s);
-    put_words(report, at + 4, x);
-    put_words(report, at + 8, y);
+    put_words(report, at, law.s);
+    put_words(report, at + 4, law.x);
+    put_words(report, at + 8, law.y);
 }
 
-// Writes the words of the three laws; the words after them stay.
-pub fn put_laws(report: &mut [u32], laws: LawReport)
+// Writes the words of three laws, whatever they are; the words after them stay.
+pub fn put_laws(report: &mut [u32], d: Witness, u: Witness, c: Witness)
     requires { report_words ≤ length report.old }
-    ensures { report.new ≡ laws_words (law_of laws.d) (law_of laws.u) (law_of laws.c) ++ drop report_words report.old }
+    ensures { report.new ≡ laws_words (law_of (BrokenBy d)) (law_of (BrokenBy u)) (law_of (BrokenBy c)) ++ drop report_words report.old }
 {
-    put_law(report, 0, laws.d);
-    put_law(report, 12, laws.u);
-    put_law(report, 24, laws.c);
+    put_law(report, 0, d);
+    put_law(report, 12, u);
+    put_law(report, 24, c);
 }
 
 // A law's number where it is held, else 0.
-fn worth(law: Law, number: u32) -> u32
-    ensures { (result ≡ cond (law_of law).held number 0) × (result ≤ number) }
+fn worth(held: bool, number: u32) -> u32
+    ensures { (result ≡ cond held number 0) × (result ≤ number) }
 {
-    if law.is_held() { number } else { 0 }
+    if held { number } else { 0 }
 }
 
 // 1 for D, 2 for U and 4 for C, added where the law is held.
-pub fn held_laws(laws: LawReport) -> u32
-    ensures { result ≡ held_laws (law_of laws.d) (law_of laws.u) (law_of laws.c) }
+pub fn held_laws(d: bool, u: bool, c: bool) -> u32
+    ensures { result ≡ held_number d u c }
 {
-    worth(laws.d, 1) + worth(laws.u, 2) + worth(laws.c, 4)
+    worth(d, 1) + worth(u, 2) + worth(c, 4)
 }

@@ -8,6 +8,7 @@ use door::problems::put_problem;
 use door::replies::{done, refused};
 use door::reports::{held_laws, put_laws};
 use door::{PROBLEM_WORDS, REPORT_WORDS, Reply};
+use laws::LawReport;
 use refusals::Refusal;
 
 // 9 on arcs, mapping and problem.
@@ -59,12 +60,12 @@ pub extern "C" fn tronglephu_laws(numbers: &[u16], report: &mut [u32]) -> Reply
 {
     match laws::laws(language(numbers)) {
         Err(x) => refused(x, 0),
-        Ok(laws) => {
+        Ok(LawReport { d, u, c }) => {
             if report.len() < REPORT_WORDS {
                 return refused(Refusal::Length { which: 6, place: 0 }, 0);
             }
-            put_laws(report, laws);
-            done(held_laws(laws))
+            put_laws(report, d.witness(), u.witness(), c.witness());
+            done(held_laws(d.is_held(), u.is_held(), c.is_held()))
         }
     }
 }
