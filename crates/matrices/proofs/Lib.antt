@@ -7,3 +7,4 @@ pub mod Rounds
 pub mod Alone
 pub mod Sums
 pub mod Kept
+pub mod Diagonal

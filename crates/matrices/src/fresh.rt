@@ -8,7 +8,7 @@ ghost use Rattle.weights.specs.Languages.{places_of};
 ghost use Rattle.weights.specs.Values.{weight_of};
 ghost use Rattle.matrices.specs.Buffers.{row_words, matrix_words, Square};
 
-use weights::{Places, WEIGHT_WORDS, Weight};
+use weights::{ONES, Places, WEIGHT_WORDS, Weight};
 
 fn unit_weight(p: Places) -> Weight
     ensures { weight_of result ≡ unit (places_of p) }
@@ -33,13 +33,14 @@ pub fn fresh_weight(p: Places, i: usize, j: usize) -> Weight
     }
 }
 
-// Writes the fresh row i over the first n entries.
+// Writes the fresh row i over the first n entries: no route in all of them, then the unit, where the row has one.
 pub fn fresh_row(p: Places, n: usize, i: usize, row: &mut [u32])
     requires { (n ≤ 16) × (n * weight_words ≤ length row.old) }
     ensures { row.new ≡ row_words n (fresh (language (places_of p)) i) ++ drop (n * weight_words) row.old }
 {
-    for j in 0..n {
-        words::write_at(row, j * WEIGHT_WORDS, fresh_weight(p, i, j));
+    row[..n * WEIGHT_WORDS].fill(ONES);
+    if i < n {
+        words::write_at(row, i * WEIGHT_WORDS, fresh_weight(p, i, i));
     }
 }
 
