@@ -91,11 +91,12 @@ pub fn has_c(p: Places) -> bool
 fn law_d(p: Places) -> Law
     ensures { law_of result ≡ law_row (test_d (places_of p)) (s_d (places_of p)) (x_d (places_of p)) (y_d (places_of p)) }
 {
-    if has_d(p) {
-        return Law::Held;
-    }
+    // Not by `has_d`: the places that break the law are wanted besides.
     let varying = p.map(non_trivial);
     let breaking = before_flag(p.map(lossy), varying);
+    if !some_flag(breaking) {
+        return Law::Held;
+    }
     let later = after_flag(breaking, varying);
     let u = units(p);
     let s = over_at(breaking, p.map(worst), u);
@@ -108,10 +109,11 @@ fn law_d(p: Places) -> Law
 fn law_u(p: Places) -> Law
     ensures { law_of result ≡ law_row (test_u (places_of p)) [] (x_u (places_of p)) [] }
 {
-    if has_u(p) {
+    let gains = p.map(is_gain);
+    if !some_flag(gains) {
         return Law::Held;
     }
-    let x = over_at(p.map(is_gain), p.map(|_| 1), units(p));
+    let x = over_at(gains, p.map(|_| 1), units(p));
     Law::BrokenBy(Witness {
         x,
         ..Witness::default()
@@ -122,11 +124,12 @@ fn law_u(p: Places) -> Law
 fn law_c(p: Places) -> Law
     ensures { law_of result ≡ law_row (test_c (places_of p)) (s_c (places_of p)) (unit_values (places_of p)) (s_c (places_of p)) }
 {
-    if has_c(p) {
+    let forgetful = p.map(lossy);
+    if !some_flag(forgetful) {
         return Law::Held;
     }
     let x = units(p);
-    let s = over_at(p.map(lossy), p.map(worst), x);
+    let s = over_at(forgetful, p.map(worst), x);
     Law::BrokenBy(Witness { s, x, y: s })
 }
 
