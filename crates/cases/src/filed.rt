@@ -1,6 +1,6 @@
 // The problem file's reader.
 use super::shared::{ROOM, TABLE_ROOM, copy};
-use exchange::frames::Frame;
+use exchange::frames::{Frame, low_byte};
 use exchange::requests::{Buffers, Request, Unanswered};
 use files::Problem;
 use refusals::Told;
@@ -22,7 +22,7 @@ pub fn to_bytes<'b>(words: &[u32], room: &'b mut [u8]) -> Result<&'b [u8], Unans
     }
     let bytes = &mut room[..size];
     for (byte, word) in bytes.iter_mut().zip(words) {
-        *byte = (*word & 0xff) as u8;
+        *byte = low_byte(*word);
     }
     Ok(bytes)
 }

@@ -39,12 +39,16 @@ fn answer(words: &[u32], response: &mut Frame) -> Result<(), Unanswered> {
     }
 }
 
-// Reads one request and answers it; false where there is none.
-fn serve(rt: &impl Print, input: &mut impl Read) -> io::Result<bool> {
-    let mut words = [0; 16384];
-    let request = frames::receive(input, &mut words)?;
-    let mut response = Frame::new();
-    match answer(request, &mut response) {
+// Reads one request into the room for its words and answers it in the frame; false where there is none.
+fn serve(
+    rt: &impl Print,
+    input: &mut impl Read,
+    words: &mut [u32],
+    response: &mut Frame,
+) -> io::Result<bool> {
+    let request = frames::receive(input, words)?;
+    response.clear();
+    match answer(request, response) {
         Ok(()) => response.send(rt)?,
         Err(Unanswered::TooLong) => frames::send_too_long(rt)?,
         Err(Unanswered::NoRequest) => return Ok(false),
@@ -52,10 +56,13 @@ fn serve(rt: &impl Print, input: &mut impl Read) -> io::Result<bool> {
     Ok(true)
 }
 
+// The words and the frame serve every request: made for each, they would take most of a small request's time.
 fn main(rt: HostRuntime) -> io::Result<()> {
+    let mut words = [0; 16384];
+    let mut response = Frame::new();
     let mut input = rt.stdin();
     for _ in 0..1_000_000_000_000u64 {
-        if !serve(&rt, &mut input)? {
+        if !serve(&rt, &mut input, &mut words, &mut response)? {
             return Ok(());
         }
     }

@@ -1,7 +1,9 @@
--- Words that are split four times, with none left over, are the four fronts one after another.
+-- Words that are split four times are the four fronts one after another, and what is left over.
 use Rattle.std.specs.Prelude.{ℕ, ◌≡◌, List, [], ◌∷◌, ◌++◌, length, refl}
-use Rattle.std.proofs.Common.{sym, ◌∙◌, ap, append_assoc, arith}
+use Rattle.std.proofs.Common.{sym, ◌∙◌, ap, append_assoc, arith, subst}
+use Rattle.std.proofs.Math.Seq.{take-append_seam}
 use Rattle.std.proofs.lemmas.List.{append-nil}
+use Rattle.exchange.specs.Cut.{StartOf}
 
 is_nil : (xs : List ℕ) → length xs ≡ 0 → xs ≡ []
 is_nil [] e = refl
@@ -14,3 +16,11 @@ joined ws r1 r2 r3 r4 a b c d ea eb ec ed none =
     ∙ append_assoc (a ++ b) c r3 ∙ ap (λ r. a ++ b ++ r) ec
     ∙ append_assoc a b r2 ∙ ap (λ r. a ++ r) eb
     ∙ ea
+
+pub starts : (ws r1 r2 r3 r4 a b c d : List ℕ) → a ++ r1 ≡ ws → b ++ r2 ≡ r1 → c ++ r3 ≡ r2 → d ++ r4 ≡ r3 → StartOf ws (a ++ b ++ c ++ d)
+starts ws r1 r2 r3 r4 a b c d ea eb ec ed =
+    let whole : (a ++ b ++ c ++ d) ++ r4 ≡ ws =
+    append_assoc (a ++ b ++ c) d r4 ∙ ap (λ r. a ++ b ++ c ++ r) ed
+    ∙ append_assoc (a ++ b) c r3 ∙ ap (λ r. a ++ b ++ r) ec
+    ∙ append_assoc a b r2 ∙ ap (λ r. a ++ r) eb ∙ ea in
+    subst (λ (q : List ℕ). StartOf q (a ++ b ++ c ++ d)) whole (take-append_seam (a ++ b ++ c ++ d) r4)

@@ -1,6 +1,6 @@
 // Frames that are read and written: 32-bit words, the lowest byte first, of which the first says how many follow.
-ghost use Rattle.std.specs.Prelude.{◌≤◌, length, IfOk};
-ghost use Rattle.exchange.specs.declared.frames.TheConstants.{FRAME_BYTES, WORD_BYTES};
+ghost use Rattle.std.specs.Prelude.{◌≡◌, ◌≤◌, ◌%◌, length, IfOk};
+ghost use Rattle.exchange.specs.declared.frames.TheConstants.{FRAME_BYTES, WORD_BYTES, CHUNK_WORDS};
 
 use inputs::read_full;
 use refusals::Told;
@@ -11,6 +11,35 @@ const FRAME_BYTES: usize = 65536;
 
 const WORD_BYTES: usize = 4;
 
+// The words of a request that are read at a time.
+const CHUNK_WORDS: usize = 8192;
+
+// The response that is the single word 4294967295.
+const TOO_LONG: [u8; 8] = [1, 0, 0, 0, 255, 255, 255, 255];
+
+// The lowest byte of a word.
+pub fn low_byte(word: u32) -> u8
+    ensures { result ≡ word % 256 }
+{
+    (word & 0xff) as u8
+}
+
+// Words from an input, as many as there is room for; false where it ends before.
+fn read_words(input: &mut impl Read, words: &mut [u32]) -> io::Result<bool>
+    requires { length words.old ≤ CHUNK_WORDS }
+{
+    let mut bytes = [0; CHUNK_WORDS * WORD_BYTES];
+    let size = words.len() * WORD_BYTES;
+    if read_full(input, &mut bytes[..size])? < size {
+        return Ok(false);
+    }
+    let (read, _) = bytes[..size].as_chunks();
+    for (word, four) in words.iter_mut().zip(read) {
+        *word = u32::from_le_bytes(*four);
+    }
+    Ok(true)
+}
+
 // Reads the words of a request behind its first. There are none where there is no request, or no room for it.
 pub fn receive<'w>(input: &mut impl Read, words: &'w mut [u32]) -> io::Result<&'w [u32]>
     ensures { IfOk result (λ request. length request.now ≤ length words.old) }
@@ -20,14 +49,14 @@ pub fn receive<'w>(input: &mut impl Read, words: &'w mut [u32]) -> io::Result<&'
         return Ok(&[]);
     }
     let count = u32::from_le_bytes(first) as usize;
-    let size = count * WORD_BYTES;
-    let mut bytes = [0; FRAME_BYTES];
-    if words.len() < count || FRAME_BYTES < size || read_full(input, &mut bytes[..size])? < size {
+    if words.len() < count {
         return Ok(&[]);
     }
-    let (read, _) = bytes.as_chunks();
-    for (word, four) in words.iter_mut().zip(read) {
-        *word = u32::from_le_bytes(*four);
+    // A part at a time, so that what is read and copied is no longer than the request.
+    for part in words[..count].chunks_mut(CHUNK_WORDS) {
+        if !read_words(input, part)? {
+            return Ok(&[]);
+        }
     }
     Ok(&words[..count])
 }
@@ -48,6 +77,13 @@ impl Frame {
         }
     }
 
+    // Begins another response in the same room.
+    pub fn clear(&mut self)
+        ensures { self.new.end ≡ WORD_BYTES }
+    {
+        self.end = WORD_BYTES;
+    }
+
     // Puts bytes, and zeros up to a whole word, where there is room for them.
     pub fn put_bytes(&mut self, bytes: &[u8]) {
         let end = self.end + bytes.len();
@@ -55,13 +91,20 @@ impl Frame {
             return;
         }
         self.bytes[self.end..end].copy_from_slice(bytes);
-        self.end = end.next_multiple_of(WORD_BYTES);
+        let whole = end.next_multiple_of(WORD_BYTES);
+        self.bytes[end..whole].fill(0);
+        self.end = whole;
     }
 
     // Puts words, as far as there is room.
     pub fn put(&mut self, words: &[u32]) {
         for word in words {
-            self.put_bytes(&word.to_le_bytes());
+            let end = self.end + WORD_BYTES;
+            if FRAME_BYTES < end {
+                return;
+            }
+            self.bytes[self.end..end].copy_from_slice(&word.to_le_bytes());
+            self.end = end;
         }
     }
 
@@ -79,7 +122,5 @@ impl Frame {
 
 // Sends the response for a buffer that is too long for this program.
 pub fn send_too_long(rt: &impl Print) -> io::Result<()> {
-    let mut frame = Frame::new();
-    frame.put(&[u32::MAX]);
-    frame.send(rt)
+    rt.write_all(&TOO_LONG)
 }

@@ -1,11 +1,16 @@
 // The parts of a request: its numbers, its language, its buffers.
-ghost use Rattle.std.specs.Prelude.{◌≡◌, ◌++◌, drop, IfOk};
+ghost use Rattle.std.specs.Prelude.{◌≡◌, ◌++◌, drop, get_or, IfOk};
 ghost use Rattle.exchange.specs.Components.{component_of, language_of};
+ghost use Rattle.exchange.specs.Cut.{StartOf};
+ghost use Rattle.exchange.specs.declared.requests.TheConstants.{NUMBERS};
 
 use weights::{Component, Language};
 
 // A language's numbers: the count, then kind and limit for each of four places.
 const LANGUAGE_NUMBERS: usize = 9;
+
+// A request's numbers: the call, the language, n, m, mode, i and j.
+const NUMBERS: usize = 15;
 
 // Why a request is not answered as its call would.
 #[derive(Clone, Copy, Debug, PartialEq, Eq)]
@@ -55,16 +60,23 @@ pub fn component(kind: u32, value: u32) -> Component
     }
 }
 
-// The language in nine numbers.
-pub fn language(numbers: &[u32; LANGUAGE_NUMBERS]) -> Language
+// The number at a place; 0 past the end.
+pub fn number(numbers: &[u32], at: usize) -> u32
+    ensures { result ≡ get_or numbers.now at 0 }
+{
+    numbers.get(at).copied().unwrap_or(0)
+}
+
+// The language in nine numbers; those that are missing count as 0.
+pub fn language(numbers: &[u32]) -> Language
     ensures { result ≡ language_of numbers.now }
 {
     Language {
-        count: numbers[0],
-        first: component(numbers[1], numbers[2]),
-        second: component(numbers[3], numbers[4]),
-        third: component(numbers[5], numbers[6]),
-        fourth: component(numbers[7], numbers[8]),
+        count: number(numbers, 0),
+        first: component(number(numbers, 1), number(numbers, 2)),
+        second: component(number(numbers, 3), number(numbers, 4)),
+        third: component(number(numbers, 5), number(numbers, 6)),
+        fourth: component(number(numbers, 7), number(numbers, 8)),
     }
 }
 
@@ -81,10 +93,38 @@ fn length(lengths: &[u32], which: usize) -> usize {
     lengths.get(which).map_or(0, |length| *length as usize)
 }
 
+// The first `count` words, or as many as there are, and the others.
+fn front(words: &[u32], count: usize) -> (&[u32], &[u32])
+    ensures joined { result.0.now ++ result.1.now ≡ words.now }
+    ensures rest { result.1.now ≡ drop count words.now }
+{
+    words.split_at(count.min(words.len()))
+}
+
+// The buffers of a request as far as its words go, also where it does not add up: the first `count` of four; the others are empty.
+pub fn cut(words: &[u32], count: usize) -> Buffers<'_>
+    ensures { StartOf (drop count (drop NUMBERS words.now)) (result.first.now ++ result.second.now ++ result.third.now ++ result.fourth.now) }
+{
+    let (_, after) = front(words, NUMBERS);
+    let (lengths, behind_lengths) = front(after, count);
+    let (first, behind_first) = front(behind_lengths, length(lengths, 0));
+    let (second, behind_second) = front(behind_first, length(lengths, 1));
+    let (third, behind_third) = front(behind_second, length(lengths, 2));
+    let (fourth, _) = front(behind_third, length(lengths, 3));
+    Buffers {
+        first,
+        second,
+        third,
+        fourth,
+    }
+}
+
 impl<'w> Request<'w> {
     pub fn read(words: &'w [u32]) -> Result<Self, Unanswered> {
         let (call, rest) = words.split_first().ok_or(Unanswered::NoRequest)?;
-        let (nine, rest) = rest.split_first_chunk().ok_or(Unanswered::NoRequest)?;
+        let (nine, rest) = rest
+            .split_first_chunk::<LANGUAGE_NUMBERS>()
+            .ok_or(Unanswered::NoRequest)?;
         let ([n, m, mode, from, to], after) = rest
             .split_first_chunk::<5>()
             .ok_or(Unanswered::NoRequest)?;
