@@ -61,6 +61,32 @@ pub fn receive<'w>(input: &mut impl Read, words: &'w mut [u32]) -> io::Result<&'
     Ok(&words[..count])
 }
 
+// Puts words into a frame from a place on, as far as there is room, and gives the place after them.
+pub fn put(frame: &mut [u8], start: usize, words: &[u32]) -> usize
+    ensures size { length frame.new ≡ length frame.old }
+    ensures place { start ≤ length frame.old → (start ≤ result) × (result ≤ length frame.old) }
+{
+    let mut at = start;
+    for word in words {
+        if frame.len() < at || frame.len() - at < WORD_BYTES {
+            return at;
+        }
+        frame[at..at + WORD_BYTES].copy_from_slice(&word.to_le_bytes());
+        at += WORD_BYTES;
+    }
+    at
+}
+
+// Sends what a frame holds up to a place, its first word put before; nothing where no frame ends there.
+pub fn send(rt: &impl Print, frame: &mut [u8], end: usize) -> io::Result<()> {
+    if frame.len() < end || end < WORD_BYTES || FRAME_BYTES < end {
+        return Ok(());
+    }
+    let others = (end / WORD_BYTES - 1) as u32;
+    frame[..WORD_BYTES].copy_from_slice(&others.to_le_bytes());
+    rt.write_all(&frame[..end])
+}
+
 // A response that is being written: its bytes so far, whose first word is put when it is sent.
 #[derive(Drop)]
 pub struct Frame {
@@ -98,14 +124,7 @@ impl Frame {
 
     // Puts words, as far as there is room.
     pub fn put(&mut self, words: &[u32]) {
-        for word in words {
-            let end = self.end + WORD_BYTES;
-            if FRAME_BYTES < end {
-                return;
-            }
-            self.bytes[self.end..end].copy_from_slice(&word.to_le_bytes());
-            self.end = end;
-        }
+        self.end = put(&mut self.bytes, self.end, words);
     }
 
     // Puts the row that a call tells.
@@ -114,9 +133,7 @@ impl Frame {
     }
 
     pub fn send(&mut self, rt: &impl Print) -> io::Result<()> {
-        let others = (self.end / WORD_BYTES - 1) as u32;
-        self.bytes[0..WORD_BYTES].copy_from_slice(&others.to_le_bytes());
-        rt.write_all(&self.bytes[..self.end])
+        send(rt, &mut self.bytes, self.end)
     }
 }
 

@@ -12,6 +12,9 @@ const LANGUAGE_NUMBERS: usize = 9;
 // A request's numbers: the call, the language, n, m, mode, i and j.
 const NUMBERS: usize = 15;
 
+// The most buffers that a request has.
+const MOST_BUFFERS: usize = 4;
+
 // Why a request is not answered as its call would.
 #[derive(Clone, Copy, Debug, PartialEq, Eq)]
 pub enum Unanswered {
@@ -144,6 +147,9 @@ impl<'w> Request<'w> {
     pub fn buffers(&self, count: usize) -> Result<Buffers<'w>, Unanswered>
         ensures { IfOk result (λ b. b.first.now ++ b.second.now ++ b.third.now ++ b.fourth.now ≡ drop count self.now.after.now) }
     {
+        if MOST_BUFFERS < count {
+            return Err(Unanswered::NoRequest);
+        }
         let (lengths, rest) = split(self.after, count)?;
         let (first, rest) = split(rest, length(lengths, 0))?;
         let (second, rest) = split(rest, length(lengths, 1))?;
