@@ -83,27 +83,22 @@ laws_stored s x y z h e₁ e₂ e₃ =
     let long₃ : length (d ++ u ++ c) ≡ report_words = length-append (d ++ u) c ∙ (let b = law_long z in omega arith) in
     front s (d ++ u ++ c) report_words (after s 0 24 (d ++ u) c (after s 0 12 d u e₁ e₂ (omega arith)) e₃ (omega arith)) long₃ h
 
+-- what is made of three things, made of three that equal them
+alike : {A B : Type 0} (f : A → A → A → B) {x y z x' y' z' : A} → x ≡ x' → y ≡ y' → z ≡ z' → f x y z ≡ f x' y' z'
+alike f {x} {y} {z} {x'} {y'} {z'} e₁ e₂ e₃ = ap (λ a. f a y z) e₁ ∙ ap (λ a. f x' a z) e₂ ∙ ap (λ a. f x' y' a) e₃
+
 -- a law's words are those that break it, zeros where it is held
 pub words_of_law : (law : Law) (w : Witness) → list_of w.s ≡ (law_of law).s → list_of w.x ≡ (law_of law).x → list_of w.y ≡ (law_of law).y
     → law_words (law_of (BrokenBy w)) ≡ law_words (law_of law)
-words_of_law law w s x y =
-    ap (λ (l : List ℕ). l ++ list_of w.x ++ list_of w.y) s
-    ∙ ap (λ (l : List ℕ). (law_of law).s ++ l ++ list_of w.y) x
-    ∙ ap (λ (l : List ℕ). (law_of law).s ++ (law_of law).x ++ l) y
+words_of_law law w s x y = alike (λ a b c. a ++ b ++ c) s x y
 
 -- the same for the words of a report
 pub words_of_laws : (d u c : Law) (x y z : Witness)
     → law_words (law_of (BrokenBy x)) ≡ law_words (law_of d) → law_words (law_of (BrokenBy y)) ≡ law_words (law_of u) → law_words (law_of (BrokenBy z)) ≡ law_words (law_of c)
     → laws_words (law_of (BrokenBy x)) (law_of (BrokenBy y)) (law_of (BrokenBy z)) ≡ laws_words (law_of d) (law_of u) (law_of c)
-words_of_laws d u c x y z e₁ e₂ e₃ =
-    ap (λ (l : List ℕ). l ++ law_words (law_of (BrokenBy y)) ++ law_words (law_of (BrokenBy z))) e₁
-    ∙ ap (λ (l : List ℕ). law_words (law_of d) ++ l ++ law_words (law_of (BrokenBy z))) e₂
-    ∙ ap (λ (l : List ℕ). law_words (law_of d) ++ law_words (law_of u) ++ l) e₃
+words_of_laws d u c x y z e₁ e₂ e₃ = alike (λ a b c. a ++ b ++ c) e₁ e₂ e₃
 
 -- and for the number of the laws that are held
 pub held_of_laws : (d u c : Law) (x y z : Bool) → x ≡ (law_of d).held → y ≡ (law_of u).held → z ≡ (law_of c).held
     → held_number x y z ≡ held_laws (law_of d) (law_of u) (law_of c)
-held_of_laws d u c x y z e₁ e₂ e₃ =
-    ap (λ (b : Bool). held_number b y z) e₁
-    ∙ ap (λ (b : Bool). held_number (law_of d).held b z) e₂
-    ∙ ap (λ (b : Bool). held_number (law_of d).held (law_of u).held b) e₃
+held_of_laws d u c x y z e₁ e₂ e₃ = alike held_number e₁ e₂ e₃
