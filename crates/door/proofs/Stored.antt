@@ -10,7 +10,7 @@ use Rattle.weights.specs.declared.Component.{Component}
 use Rattle.weights.specs.declared.Component.TheVariants.{Dist, Width, Class, Gain}
 use Rattle.weights.specs.declared.Language.{Language}
 use Rattle.laws.specs.declared.Law.{Law}
-use Rattle.laws.specs.declared.Law.TheVariants.{BrokenBy}
+use Rattle.laws.specs.declared.Law.TheVariants.{Held, BrokenBy}
 use Rattle.laws.specs.declared.Witness.{Witness}
 use Rattle.weights.specs.PerPlace.{list_of}
 use Rattle.laws.specs.Report.{law_of}
@@ -66,18 +66,19 @@ problem_stored s n m mode l h e₁ e₂ e₃ e₄ e₅ e₆ =
     let d₆ = after s 0 10 front₅ (place_numbers l.fourth) d₅ e₆ (omega arith) in
     front s (front₅ ++ place_numbers l.fourth) problem_words d₆ long₆ h
 
--- a law has twelve words
-law_long : (w : Witness) → length (law_words (law_of (BrokenBy w))) ≡ 12
-law_long w = refl
+-- a law has twelve words, held or broken by whatever words
+law_long : (l : Law) → length (law_words (law_of l)) ≡ 12
+law_long Held = refl
+law_long (BrokenBy w) = refl
 
--- the words of a report, stored law by law
-pub laws_stored : (s : List ℕ) {s₁ s₂ s₃ : List ℕ} (x y z : Witness) → report_words ≤ length s
-    → s₁ ≡ sets s 0 (law_words (law_of (BrokenBy x))) → s₂ ≡ sets s₁ 12 (law_words (law_of (BrokenBy y))) → s₃ ≡ sets s₂ 24 (law_words (law_of (BrokenBy z)))
-    → s₃ ≡ laws_words (law_of (BrokenBy x)) (law_of (BrokenBy y)) (law_of (BrokenBy z)) ++ drop report_words s
+-- the words of three laws, stored law by law
+pub laws_stored : (s : List ℕ) {s₁ s₂ s₃ : List ℕ} (x y z : Law) → report_words ≤ length s
+    → s₁ ≡ sets s 0 (law_words (law_of x)) → s₂ ≡ sets s₁ 12 (law_words (law_of y)) → s₃ ≡ sets s₂ 24 (law_words (law_of z))
+    → s₃ ≡ laws_words (law_of x) (law_of y) (law_of z) ++ drop report_words s
 laws_stored s x y z h e₁ e₂ e₃ =
-    let d = law_words (law_of (BrokenBy x)) in
-    let u = law_words (law_of (BrokenBy y)) in
-    let c = law_words (law_of (BrokenBy z)) in
+    let d = law_words (law_of x) in
+    let u = law_words (law_of y) in
+    let c = law_words (law_of z) in
     let a = law_long x in
     let long₂ : length (d ++ u) ≡ 24 = length-append d u ∙ (let b = law_long y in omega arith) in
     let long₃ : length (d ++ u ++ c) ≡ report_words = length-append (d ++ u) c ∙ (let b = law_long z in omega arith) in
